@@ -5,7 +5,7 @@ use Rattle.std.specs.List.{flat_map, range_with_len}
 use Rattle.fw_time.specs.Stamp.{Stamp, same}
 use Rattle.fw_time.specs.StampText.{stamp_text}
 use Rattle.fw_bag.specs.RecText.{rec_text}
-use Rattle.fw_flow.specs.declared.kind.Kind.{Kind}
+use Rattle.fw_flow.specs.Kind.{Kind}
 use Rattle.fw_flow.specs.declared.kind.Kind.TheVariants.{OutputEpoch, OutputNumber}
 use Rattle.fw_flow.specs.Dataflow.{System, node_at, kind_of, node_ids, in_edges, batches_of}
 use Rattle.fw_flow.specs.WholeBags.{Timed, timed_where}

@@ -18,7 +18,7 @@ use Rattle.fw_run.specs.declared.status.Status.TheVariants.{Done, BadWords, Refu
 use Rattle.fw_run.specs.declared.work.Work.{Work}
 use Rattle.fw_run.specs.Answers.{Outside, Known, outside_of, TellsRecords, RunAnswers}
 use Rattle.fw_run.specs.Call.{Call, CountsWrites, HasRefused, KeepsFolder, PrintsPart}
-use Rattle.fw_run.specs.Ends.{IsDamageIn, IsStoreFault, IsWholeRun, NoFaults, NoneLeft}
+use Rattle.fw_run.specs.Ends.{IsDamageIn, IsOutputFault, IsStoreFault, IsWholeRun, NoFaults, NoneLeft}
 use Rattle.fw_run.specs.Fault.{status_of}
 use Rattle.fw_run.specs.Status.{HasWord, IsTellingOf, TellsOfRoot, read_faults_told, status_number}
 use Rattle.fw_run.specs.Work.{EndsWork, IsWork, StaysIfUnseen, StaysUnlessRun}
@@ -83,6 +83,7 @@ answers-early known call status folder now store out early bad refused read kept
   refused = refused;
   read_fault = read;
   write_fault = λ e. absurd (subst IsEarly e early);
+  last_taken = λ e. absurd (subst IsEarly e early);
   store_fault = λ e. absurd (subst IsEarly e early);
   damaged = λ id e. absurd (subst IsEarly e early);
   no_root = early_no_root status early;
@@ -169,6 +170,7 @@ answers-done known call command work folder now store left out wrote e j ends te
       refused = λ refusal is. absurd (cc);
       read_fault = read;
       write_fault = λ is. absurd (cc);
+      last_taken = λ is. absurd (cc);
       store_fault = λ is. absurd (cc);
       damaged = λ id is. absurd (cc);
       no_root = done_no_root;
@@ -254,6 +256,7 @@ answers-fault known call command work f folder now store left out wrote e j ends
       refused = λ refusal is. absurd (no_refusal f refusal is);
       read_fault = told;
       write_fault = part;
+      last_taken = λ is. left_of-call call command work (IsOutputFault tells count last (known.store left).records first final) e j (ends.last_taken (ap (λ (g : RunFault). Err g) (write_of f is)));
       store_fault = stopped;
       damaged = broken;
       no_root = fault_no_root f;
@@ -330,6 +333,7 @@ told_no_memory known call before status after word a =
       refused = λ refusal is. absurd (cc);
       read_fault = read_told status NoMemory (known.read_faults before.folder) (known.read_faults after.folder) telling a.read_fault;
       write_fault = λ is. absurd (cc);
+      last_taken = λ is. absurd (cc);
       store_fault = λ is. absurd (cc);
       damaged = λ id is. absurd (cc);
       no_root = memory_no_root;

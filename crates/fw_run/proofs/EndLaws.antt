@@ -15,22 +15,23 @@ use Rattle.fw_keep.specs.Stored.{Records}
 use Rattle.fw_running.specs.declared.fault.EngineFault.{EngineFault}
 use Rattle.fw_running.specs.declared.fault.EngineFault.TheVariants as fault
 use Rattle.fw_run.proofs.FaultCounts.{some_after}
-use Rattle.fw_run.proofs.TakenLaws.{taken_nothing, taken_part, taken_more, until_all}
+use Rattle.fw_run.proofs.TakenLaws.{line_cut, taken_nothing, taken_part, taken_more, until_all}
 use Rattle.fw_run.proofs.ThroughLaws.{counted_faults, not_begun}
 use Rattle.fw_command.proofs.WritingLaws.{written_nothing, written_more, cut_nothing, part_nothing}
 use Rattle.fw_run.specs.declared.fault.RunFault.{RunFault}
 use Rattle.fw_run.specs.declared.fault.RunFault.TheVariants as stop
 use Rattle.fw_run.specs.declared.tally.StepCounts.{StepCounts}
-use Rattle.fw_run.specs.Ends.{nowhere, seen, seen_lines, StaysUnseen, IsSeen, text_of_run, WritesLast, first_point, PrintsOfRun, NoFaults, NoneLeft, SomeLeft, IsDone, IsStoreFault, IsDamageIn, EndsRun}
+use Rattle.fw_run.specs.Ends.{nowhere, seen, seen_lines, StaysUnseen, IsSeen, text_of_run, WritesLast, first_point, PrintsOfRun, NoFaults, NoneLeft, SomeLeft, IsDone, IsLastLineCut, IsStoreFault, IsDamageIn, EndsRun}
 use Rattle.fw_run.specs.Enduring.{Point, start_of, IsRunKnown, with_faults, RoseBy, RoseIfOn, StaysOrRose}
 use Rattle.fw_run.specs.Fault.{faults_after_run}
 use Rattle.fw_run.specs.Performing.{IsTaken, IsCountAt, WritesUntil}
 use Rattle.fw_run.specs.Reports.{Report, faults_in, reports_text}
 use Rattle.fw_run.specs.Stopping.{HoldsWrites}
 use Rattle.fw_run.specs.Tallies.{last_line, tally_shown, with_tally}
-use Rattle.fw_run.specs.Through.{IsSoFar, BeginsWith, AreTaken, AreCutOff, IsStoppedByStore, IsStoppedByDamage, EndsItems}
+use Rattle.fw_run.specs.Through.{IsSoFar, BeginsWith, AreTaken, AreCutOff, IsStoppedByOutput, IsStoppedByStore, IsStoppedByDamage, EndsItems}
 use Rattle.fw_command.specs.Command.{Start, at_first, Course, Manner}
 use Rattle.fw_command.specs.Writing.{IsWritten, IsCutOff, WritesText}
+use Rattle.fw_hold.specs.Going.{IsCutIn}
 
 -- ---- where a run begins
 
@@ -153,6 +154,23 @@ done_of manner Tells sys items tally IsCount records first middle last u stays w
           );
     }
 
+-- the output failed in the last line
+last_line_cut : (manner : Manner) (Tells : Type 0) (sys : System) (items : List Item) (tally : StepCounts) (IsCount : ℕ → Type 0) (records : Option Records) (first middle last : SinkView) (f : OutFault)
+    → IsErrOf {T = Unit {0}} (Err (stop.Out f)) (stop.Out Failed) → IsAllTaken manner Tells sys items tally records first middle → StaysUnseen manner.is_seen first middle
+    → IsCutOff (last_line manner.last tally) f middle last → IsCount tally.faults → IsLastLineCut Tells IsCount records first last manner sys items
+last_line_cut manner Tells sys items tally IsCount records first middle last NoMemory e u stays c is = absurd (cc)
+last_line_cut manner Tells sys items tally IsCount records first middle last Failed e u stays c is =
+    let from = first_point manner sys in
+    let cut = line_cut (seen_lines manner.is_seen u.bytes) (last_line manner.last tally) Failed first middle last (seen_written manner.is_seen u.bytes first middle u.written stays) c in
+    λ k.
+    let s = taken_so_far manner.course Tells sys from items tally (HoldsWrites sys records) (seen manner.is_seen first) (seen manner.is_seen middle) u k in (
+      s.run,
+      subst (λ (t : StepCounts). IsCutIn (seen_lines manner.is_seen (reports_text from.counts.steps s.run.reports)) (last_line manner.last t) Failed first last) s.counted
+          (subst (λ (t : List ℕ). IsCutIn (seen_lines manner.is_seen t) (last_line manner.last tally) Failed first last) s.text cut),
+      subst IsCount (counted_faults from tally s.run.reports (start-none manner.start sys) s.counted) is,
+      s.so,
+    )
+
 -- ---- answers
 
 -- no fault leaves a count
@@ -175,6 +193,7 @@ ends-taken Tells manner sys items tally a c records given first middle last (Ok 
       };
       cut_off = tt;
       left = done_of manner Tells sys items tally (λ (faults : ℕ). faults ≡ 0) records first middle last u stays line.0 line.1;
+      last_taken = λ e. absurd (cc);
       store_fault = λ e. absurd (cc);
       damaged = λ id e. absurd (cc);
       none = same;
@@ -194,6 +213,7 @@ ends-taken Tells manner sys items tally a c records given first middle last (Err
             (taken_more lines at.one f first middle last (seen_written manner.is_seen u.bytes first middle u.written stays) at.taken);
       };
       left = tt;
+      last_taken = λ e. inr (last_line_cut manner Tells sys items tally (RoseBy a c) records first middle last f e u stays line rose);
       store_fault = λ e. absurd (cc);
       damaged = λ id e. absurd (cc);
       none = tt;
@@ -213,6 +233,7 @@ ends-taken Tells manner sys items tally a c records given first middle last (Err
         written = until_all (Unit {0}) (Unit {0}) (lines ++ text) (stop.Engine fault.StoreFault) first last written;
       };
       left = tt;
+      last_taken = λ e. absurd (cc);
       store_fault = λ e. record {
         ends = λ off. absurd (omega (arith, none off, line.1));
         goes_on = λ on. done_of manner Tells sys items tally (λ (faults : ℕ). (1 ≤ faults) × RoseBy a c faults) records first middle last u stays line.0 (line.1, rose);
@@ -303,6 +324,13 @@ damage_put course Tells sys from items id given IsCount P Q put d = record {
   stops = d.stops;
 }
 
+-- the output fails in the lines of steps only where they are seen
+stopped_seen : (is_seen : Bool) (course : Course) (Tells : Type 0) (sys : System) (from : Point) (items : List Item) (records : Option Records) (IsCount : ℕ → Type 0) (bytes : List ℕ) (first last : SinkView)
+    → IsTaken {T = Unit {0}} bytes (Err (stop.Out Failed)) (seen is_seen first) (seen is_seen last) → IsStoppedByOutput course Tells sys from items records IsCount (seen is_seen first) (seen is_seen last)
+    → (is_seen ≡ true) × IsStoppedByOutput course Tells sys from items records IsCount first last
+stopped_seen true course Tells sys from items records IsCount bytes first last t s = (refl, s)
+stopped_seen false course Tells sys from items records IsCount bytes first last t s = absurd (omega (arith, t.faults))
+
 -- of a fault that is this one, what ended the items
 ended_by : (course : Course) (Tells : Type 0) (sys : System) (from : Point) (items : List Item) (f g : RunFault) (IsCount : ℕ → Type 0) (records : Option Records) (given : Option (ℕ × List ℕ)) (first last : SinkView)
     → f ≡ g → EndsItems course Tells sys from items f IsCount records given first last → EndsItems course Tells sys from items g IsCount records given first last
@@ -328,6 +356,10 @@ ends-stopped Tells manner sys items f a c records given first last u ends stays 
     written = seen_until manner.is_seen u.bytes f first last u.taken stays;
   };
   left = tt;
+  last_taken = λ e.
+      let failed = fault_in f (stop.Out Failed) e in
+      inl (stopped_seen manner.is_seen manner.course Tells sys from items records (RoseBy a c) u.bytes first last (subst (λ (g : RunFault). IsTaken {T = Unit {0}} u.bytes (Err g) before after) failed u.taken)
+      (ended_by manner.course Tells sys from items f (stop.Out Failed) (RoseBy a c) records given before after failed ends));
   store_fault = λ e.
       let h = of_store (fault_in f (stop.Engine fault.StoreFault) e) in
       record {

@@ -13,7 +13,7 @@ use Rattle.fw_model.specs.Machine.{Machine}
 use Rattle.fw_model.specs.Steps.{Run}
 use Rattle.fw_keep.specs.Stored.{Records}
 use Rattle.fw_running.specs.declared.fault.EngineFault.TheVariants as fault
-use Rattle.fw_running.specs.Steps.{MayCallStore, IsStepEnabled, IsLeftBy}
+use Rattle.fw_running.specs.Steps.{MayCallStore, NeedsStore, IsLeftBy}
 use Rattle.fw_engine.specs.declared.engine.Engine.{Engine}
 use Rattle.fw_engine.specs.Engine.{StandsFor}
 use Rattle.fw_run.proofs.EnduringLaws.{may_none, any_may}
@@ -28,7 +28,7 @@ use Rattle.fw_run.specs.Enduring.{Endures, EnduredItem, RoseBy}
 use Rattle.fw_run.specs.Fault.{faults_after_run}
 use Rattle.fw_run.specs.Reports.{Report, not_taken, unswept, faults_in, outcomes_in, shown_in, fault_line, reports_text}
 use Rattle.fw_run.specs.Performing.{IsItemStopped, IsCountAt, PrintsItem}
-use Rattle.fw_run.specs.Stopping.{MayCallIn, IsLeftIn}
+use Rattle.fw_run.specs.Stopping.{IsPartOf, MayCallIn, IsLeftIn}
 use Rattle.fw_run.specs.Tallies.{tally_shown, with_fault, with_tally}
 use Rattle.fw_command.specs.Command.{Showing, Course, up_to_fault}
 use Rattle.fw_command.specs.Writing.{IsWritten, IsCutOff}
@@ -40,6 +40,11 @@ use Rattle.fw_command.specs.Writing.{IsWritten, IsCutOff}
 pub record IsItemFaulted (showing : Showing) (sys : System) (state : Machine) (item : Item) (old counts : StepCounts) (bytes : List ℕ) (IsSo : Machine → Type 0) : Type 0 where
   pub of_item : EnduredItem (record { goes_on = true; showing = showing }) sys state item
   pub text : reports_text old.steps of_item.reports ≡ bytes ++ fault_line (counts.steps + 1)
+  pub shown : List Report
+  pub failed : Report
+  pub parts : of_item.reports ≡ shown ++ failed ∷ []
+  pub lines : bytes ≡ reports_text old.steps shown
+  pub line : reports_text (old.steps + length shown) (failed ∷ []) ≡ fault_line (counts.steps + 1)
   pub counted : with_fault counts ≡ with_tally old (tally_shown of_item.reports)
   pub once : faults_in of_item.reports ≡ 1
   pub so : IsSo of_item.last
@@ -57,13 +62,13 @@ pub record IsStepFaulted (showing : Showing) (sys : System) (state : Machine) (s
   pub so : IsSo last
 
 -- a step that is not done
-step_failed : (showing : Showing) (sys : System) (state : Machine) (step : Step) (IsSo : Machine → Type 0) → MayCallStore sys.flow step → IsStepEnabled sys state step → (step ≡ Collect → ⊥) → IsSo state
+step_failed : (showing : Showing) (sys : System) (state : Machine) (step : Step) (IsSo : Machine → Type 0) → MayCallStore sys.flow step → NeedsStore sys state step → (step ≡ Collect → ⊥) → IsSo state
     → IsStepFaulted showing sys state step IsSo
-step_failed showing sys state step IsSo calls enabled other so = record {
+step_failed showing sys state step IsSo calls needs other so = record {
   steps = [];
   report = not_taken;
   last = state;
-  endures = (calls, enabled, other, refl, refl);
+  endures = (calls, needs, other, refl, refl);
   run = refl;
   line = λ before. append-nil (fault_line (before + 1));
   unseen = refl;
@@ -102,10 +107,16 @@ item_faulted showing sys state (One step) old counts bytes P calls t =
     let steps : counts.steps ≡ old.steps + 0 = ap (λ (c : StepCounts). c.steps) t.counted ∙ ap (λ (rs : List Report). old.steps + length rs) none in
     let nothing : bytes ≡ [] = t.text ∙ ap (λ (rs : List Report). reports_text old.steps rs) none in
     let number : old.steps + 1 ≡ counts.steps + 1 = omega (arith, steps) in
+    let here : (old.steps + 0) + 1 ≡ counts.steps + 1 = omega (arith, steps) in
     let more : faults_in (f.report ∷ []) ≡ faults_in t.reports + 1 = f.once ∙ ap (λ (rs : List Report). faults_in rs + 1) (sym none) in
     record {
       of_item = record { steps = f.steps; reports = f.report ∷ []; last = f.last; endures = (f.report, f.endures, refl); run = f.run; may = tt };
       text = f.line old.steps ∙ ap fault_line number ∙ ap (λ (b : List ℕ). b ++ fault_line (counts.steps + 1)) (sym nothing);
+      shown = [];
+      failed = f.report;
+      parts = refl;
+      lines = nothing;
+      line = f.line (old.steps + 0) ∙ ap fault_line here;
       counted = counted-fault old counts t.reports (f.report ∷ []) t.counted (f.unseen ∙ ap shown_in (sym none)) (ap (λ (rs : List Report). length rs + 1) (sym none)) more;
       once = f.once;
       so = f.so;
@@ -130,6 +141,11 @@ item_faulted showing sys state (Auto most) old counts bytes P calls t =
       text = reports_text-append old.steps t.reports (not_taken ∷ [])
           ∙ ap (λ (b : List ℕ). b ++ reports_text (old.steps + length t.reports) (not_taken ∷ [])) (sym t.text)
           ∙ ap (λ (b : List ℕ). bytes ++ b) last;
+      shown = t.reports;
+      failed = not_taken;
+      parts = refl;
+      lines = t.text;
+      line = last;
       counted = counted-fault old counts t.reports all t.counted seen (length-append t.reports (not_taken ∷ [])) (faults-append t.reports (not_taken ∷ []));
       once = faults-append t.reports (not_taken ∷ []) ∙ ap (λ (n : ℕ). n + 1) never;
       so = t.so.1;
@@ -143,6 +159,11 @@ fault_of_answer f g e = ap with_fault_of e
   where
     with_fault_of : RunFault → Result (Unit {0}) RunFault
     with_fault_of x = Err x
+
+-- all of an item was begun
+part_of-itself : (item : Item) → IsPartOf item item
+part_of-itself (One step) = refl
+part_of-itself (Auto most) = (most, omega arith, refl)
 
 -- an item of which no fault is counted is one of each run
 abbrev of_any : (course : Course) (sys : System) (state : Machine) (item : Item) → EnduredItem (up_to_fault course.showing) sys state item → EnduredItem course sys state item
@@ -176,8 +197,20 @@ through-stopped course (stop.Out f) old new before after item counted counts Nev
   bytes = p.bytes;
   taken = p.taken;
   does = λ sys state st trusts.
-      let b = p.does sys state st trusts in
-      record { of_item = of_any course sys state item b.of_item; others = b.others; text = b.text; faults = subst IsCount (sym b.of_item.may) none };
+      let d = p.does sys state st trusts in
+      let b = d.0 in (
+        record { of_item = of_any course sys state item b.of_item; others = b.others; text = b.text; faults = subst IsCount (sym b.of_item.may) none },
+        λ failed.
+            let c = d.1 failed in
+            record {
+              part = c.part;
+              begun = c.begun;
+              of_item = of_any course sys state c.part c.of_item;
+              cut = c.cut;
+              faults = subst IsCount (sym c.of_item.may) none;
+              stands = c.stands;
+            },
+      );
 }
 through-stopped course (stop.Engine f) old new before after item counted counts Never IsCount first last none p = record {
   bytes = p.bytes;
@@ -216,11 +249,28 @@ through-fault_cut course old new before after item counted counts Never IsCount 
       bytes = p.bytes ++ at.one;
       taken = taken_more p.bytes at.one f first mid last p.taken at.taken;
       does = λ sys state st trusts.
-          let g = item_faulted course.showing sys state item counted counts p.bytes (StandsFor sys new after) (calls sys state st) (p.does sys state st).0 in
-          record {
-            of_item = of_on course sys state item on g.of_item;
-            others = at.other;
-            text = g.text ∙ ap (λ (t : List ℕ). p.bytes ++ t) at.parts ∙ sym (append_assoc p.bytes at.one at.other);
-            faults = subst IsCount (sym g.once) once;
-          };
+          let g = item_faulted course.showing sys state item counted counts p.bytes (StandsFor sys new after) (calls sys state st) (p.does sys state st).0 in (
+            record {
+              of_item = of_on course sys state item on g.of_item;
+              others = at.other;
+              text = g.text ∙ ap (λ (t : List ℕ). p.bytes ++ t) at.parts ∙ sym (append_assoc p.bytes at.one at.other);
+              faults = subst IsCount (sym g.once) once;
+            },
+            λ failed. record {
+              part = item;
+              begun = part_of-itself item;
+              of_item = of_on course sys state item on g.of_item;
+              cut = record {
+                shown = g.shown;
+                last = g.failed;
+                parts = g.parts;
+                some = at.one;
+                left = at.other;
+                lines = g.line ∙ at.parts;
+                text = ap (λ (b : List ℕ). b ++ at.one) g.lines;
+              };
+              faults = subst IsCount (sym g.once) once;
+              stands = g.so;
+            },
+          );
     }

@@ -129,12 +129,27 @@ step_begun showing old new before after step tally counts flow stepped behind f 
       taken = part.taken;
       does = λ sys state st trusts.
           let next = follows sys state st trusts in
-          record {
-            of_item = of_step showing sys state step stepped behind new after (told sys state st) next;
-            others = part.other;
-            text = sym (line_of-step sys flow new after next.next (outcome_of stepped) behind tally.steps e next.stands) ∙ part.parts;
-            faults = refl;
-          };
+          let of_item = of_step showing sys state step stepped behind new after (told sys state st) next in
+          let lines : (n : ℕ) → reports_text n of_item.reports ≡ part.one ++ part.other =
+          λ n. sym (line_of-step sys flow new after next.next (outcome_of stepped) behind n e next.stands) ∙ part.parts in (
+            record { of_item = of_item; others = part.other; text = lines tally.steps; faults = refl },
+            λ failed. record {
+              part = One step;
+              begun = refl;
+              of_item = of_item;
+              cut = record {
+                shown = [];
+                last = report_of sys.flow (outcome_of stepped) behind;
+                parts = refl;
+                some = part.one;
+                left = part.other;
+                lines = lines (tally.steps + 0);
+                text = refl;
+              };
+              faults = refl;
+              stands = next.stands;
+            },
+          );
     }
 
 -- or were written
@@ -186,7 +201,7 @@ auto-none engine records tally view fits = record {
 }
 
 -- one step more
-more_goes : (sys : System) (state : Machine) (count : ℕ) (tally counts more : StepCounts) (bytes : List ℕ) (mid new : Engine) (between after : Option Records) (flow : Dataflow) (shown : Effect) (next : Machine)
+abbrev more_goes : (sys : System) (state : Machine) (count : ℕ) (tally counts more : StepCounts) (bytes : List ℕ) (mid new : Engine) (between after : Option Records) (flow : Dataflow) (shown : Effect) (next : Machine)
     → (g : AutoGoes sys state count tally counts bytes mid between) → more ≡ with_tally counts (tally_of (did shown ∷ [])) → flow ≡ flow_of new → TakesFirst sys g.now (auto_steps sys.flow) next (did shown) → StandsFor sys new after next
     → AutoGoes sys state (count + 1) tally more (bytes ++ outcome_text flow (did shown)) new after
 more_goes sys state count tally counts more bytes mid new between after flow shown next g i e t st =
@@ -310,13 +325,33 @@ auto_begun showing old mid new before between after flow (Did shown) count most 
           let parts : (s.bytes ++ (part.one ++ part.other)) ++ behind ≡ (s.bytes ++ part.one) ++ (part.other ++ behind) =
           ap (λ (b : List ℕ). b ++ behind) (sym (append_assoc s.bytes part.one part.other)) ∙ append_assoc (s.bytes ++ part.one) part.other behind in
           let whole : reports_text tally.steps (one.reports ++ told.0) ≡ (s.bytes ++ part.one) ++ (part.other ++ behind) = lines ∙ parts in
-          record {
-            of_item = of_auto showing sys state rest.last most (one.steps ++ rest.steps) (one.reports ++ told.0)
-                (auto_on sys state one.now rest.last one.steps rest.steps (most - count - 1) most one.comes rest.comes all) run;
-            others = part.other ++ behind;
-            text = whole;
-            faults = shown-faults showing sys state rest.last (one.steps ++ rest.steps) (one.reports ++ told.0) run;
-          };
+          let report = came (did (effect_of shown)) (outcome_text sys.flow (did (effect_of shown))) in
+          let line : outcome_text flow (did (effect_of shown)) ≡ reports_text (tally.steps + length g.reports) (report ∷ []) =
+          ap (λ (x : Dataflow). outcome_text x (did (effect_of shown))) (e ∙ next.stands.apart.flow) ∙ sym (append-nil (outcome_text sys.flow (did (effect_of shown)))) in (
+            record {
+              of_item = of_auto showing sys state rest.last most (one.steps ++ rest.steps) (one.reports ++ told.0)
+                  (auto_on sys state one.now rest.last one.steps rest.steps (most - count - 1) most one.comes rest.comes all) run;
+              others = part.other ++ behind;
+              text = whole;
+              faults = shown-faults showing sys state rest.last (one.steps ++ rest.steps) (one.reports ++ told.0) run;
+            },
+            λ failed. record {
+              part = Auto (length one.steps);
+              begun = (length one.steps, omega (arith, below, one.full), refl);
+              of_item = of_auto showing sys state one.now (length one.steps) one.steps one.reports one.comes (one.run showing);
+              cut = record {
+                shown = g.reports;
+                last = report;
+                parts = refl;
+                some = part.one;
+                left = part.other;
+                lines = sym line ∙ part.parts;
+                text = ap (λ (b : List ℕ). b ++ part.one) g.text;
+              };
+              faults = shown-faults showing sys state one.now one.steps one.reports (one.run showing);
+              stands = one.stands;
+            },
+          );
     }
 auto_begun showing old mid new before between after flow Idle count most tally counts more f first middle last s below m e follows i c = absurd (true≢false i)
 

@@ -1,9 +1,7 @@
 -- What a start says of texts, and what its status then says.
-use Rattle.std.proofs.Common.{◌≡◌, ◌⊎◌, inl, inr, ℕ, ◌+◌, ◌^◌, ◌<◌, List, [], ◌++◌, length, take, drop, Option, Some, None, Result, Ok, Err, refl, sym, ◌∙◌, ap, subst}
+use Rattle.std.proofs.Common.{◌≡◌, ◌⊎◌, inl, inr, ℕ, ◌+◌, ◌^◌, ◌<◌, List, [], ◌++◌, length, Option, Some, None, Result, Ok, Err, refl, sym, ◌∙◌, ap, subst}
 use Rattle.std.proofs.lemmas.Bool.{false≢true}
-use Rattle.std.proofs.lemmas.List.{take-append-drop}
 use Rattle.std.specs.Prelude.{IsErrOf, IsSome}
-use Rattle.fw_outside.specs.declared.fault.OutFault.{OutFault}
 use Rattle.fw_outside.specs.declared.fault.OutFault.TheVariants as output
 use Rattle.fw_outside.specs.Outside.{SinkView, StayIfTold, StoreView}
 use Rattle.fw_flow.specs.Dataflow.{Dataflow, System}
@@ -15,19 +13,20 @@ use Rattle.fw_running.specs.declared.fault.EngineFault.TheVariants as engine
 use Rattle.fw_generate.specs.Texts.{Texts}
 use Rattle.fw_command.specs.Held.{text_digests}
 use Rattle.fw_command.specs.Texts.{spelled_items, spelled_system}
-use Rattle.fw_command.specs.Writing.{faults_by, IsRefusedBy, IsWritten, IsCutOff}
-use Rattle.fw_command.proofs.WritingLaws.{takes_more, written_more}
+use Rattle.fw_command.specs.Writing.{IsWritten}
+use Rattle.fw_command.proofs.WritingLaws.{written_more}
 use Rattle.fw_hold.specs.declared.fault.HoldFault.{HoldFault}
 use Rattle.fw_hold.specs.declared.fault.HoldFault.TheVariants.{Out, Engine, DamagedRoot as BadRoot, ForeignRoot as OtherRoot}
 use Rattle.fw_hold.specs.declared.place.HeldCounts.{HeldCounts}
 use Rattle.fw_hold.specs.Engine.{GaveBytes}
 use Rattle.fw_hold.specs.Faults.{IsOfRoot, faults_after_hold}
 use Rattle.fw_hold.specs.Found.{GaveForeign, GaveNoRoot}
-use Rattle.fw_hold.specs.Going.{CountsOut, HoldsFound, IsCutIn, WritesUpTo}
+use Rattle.fw_hold.specs.Going.{CountsOut, HoldsFound, WritesUpTo}
 use Rattle.fw_hold.specs.Hold.{IsAtEnd}
 use Rattle.fw_hold.specs.Kept.{HeldTexts, Found, system_in}
 use Rattle.fw_hold.specs.Moves.{KeptPoint, MakesAll, SchedulePoint}
 use Rattle.fw_hold.specs.Starting.{EndsStart, IfWell, IsForeignIn, IsToldForeign, MayStart, lines_written_last}
+use Rattle.fw_run.proofs.TakenLaws.{line_cut}
 use Rattle.fw_run.specs.declared.status.Status.{Status}
 use Rattle.fw_run.specs.declared.status.Status.TheVariants.{Done, BadWords, Refused, ReadFault, WriteFault, StoreFault, Damaged, DamagedRoot, NoMemory, ForeignRoot}
 use Rattle.fw_run.specs.Answers.{Outside, Known, TellsRecords}
@@ -265,16 +264,6 @@ ends_fault known flow texts fault before after may same s =
         record { on = on; wrote = writes_fault flow texts earlier records on fault (known.out before.out) (known.out after.out) e.wrote }
 
 -- ---- all was done
-
-line_cut : (text line : List ℕ) (fault : OutFault) (before mid after : SinkView) → IsWritten text before mid → IsCutOff line fault mid after → IsCutIn text line fault before after
-line_cut text line fault before mid after w c = record {
-  part = take c.taken.0 line;
-  left = drop c.taken.0 line;
-  parts = sym (take-append-drop c.taken.0 line);
-  taken = takes_more before.taken mid.taken after.taken text (take c.taken.0 line) w.taken c.taken.2;
-  faults = subst (λ (n : ℕ). after.faults ≡ faults_by fault n) w.none_failed c.faults;
-  refusals = subst (λ (n : ℕ). IsRefusedBy fault n after.refusals) w.none_refused c.refusals;
-}
 
 line_writes : (flow : Dataflow) (texts : Texts) (earlier : EarlierStarts) (records : Option Records) (on : HoldsOn flow texts earlier records) (status : Status) (before mid after : SinkView)
     → IsAllHeld flow texts earlier records on → IsWritten on.text before mid → TellsEnd (done_line on.last.steps on.last.idle) status mid after → WritesHeld flow texts earlier records on status before after

@@ -69,7 +69,7 @@ step_refused showing engine records step tally view = record {
       let w = st.apart.well_formed in
       let reached = st.apart.reached in
       let found = endured-taken (up_to_fault showing) sys w state reached (One step) (item-run sys w reached.0 reached.1 state reached.2 (One step)) in
-      record { of_item = found.0; others = reports_text tally.steps found.0.reports; text = refl; faults = found.1 };
+      (record { of_item = found.0; others = reports_text tally.steps found.0.reports; text = refl; faults = found.1 }, λ failed. absurd (cc));
 }
 
 -- nothing is told where no records are

@@ -6,6 +6,7 @@ use Rattle.fw_outside.specs.declared.fault.OutFault.TheVariants.{NoMemory}
 use Rattle.fw_outside.specs.Outside.{SinkView}
 use Rattle.fw_command.specs.Writing.{faults_by, IsRefusedBy, IsWritten, IsCutOff}
 use Rattle.fw_command.proofs.WritingLaws.{takes_first, takes_more, takes_none, written_more}
+use Rattle.fw_hold.specs.Going.{IsCutIn}
 use Rattle.fw_run.specs.declared.fault.RunFault.{RunFault}
 use Rattle.fw_run.specs.declared.fault.RunFault.TheVariants.{Out, Engine}
 use Rattle.fw_run.specs.Performing.{IsCutAfter, IsTaken, WritesUntil}
@@ -43,6 +44,17 @@ taken_part bytes fault before after c = record {
   other = drop c.taken.0 bytes;
   parts = sym (take-append-drop c.taken.0 bytes);
   taken = record { taken = c.taken.2; faults = c.faults; refusals = c.refusals };
+}
+
+-- a text was written, and a line behind it cut off
+pub line_cut : (text line : List ℕ) (fault : OutFault) (before mid after : SinkView) → IsWritten text before mid → IsCutOff line fault mid after → IsCutIn text line fault before after
+line_cut text line fault before mid after w c = record {
+  part = take c.taken.0 line;
+  left = drop c.taken.0 line;
+  parts = sym (take-append-drop c.taken.0 line);
+  taken = takes_more before.taken mid.taken after.taken text (take c.taken.0 line) w.taken c.taken.2;
+  faults = subst (λ (n : ℕ). after.faults ≡ faults_by fault n) w.none_failed c.faults;
+  refusals = subst (λ (n : ℕ). IsRefusedBy fault n after.refusals) w.none_refused c.refusals;
 }
 
 -- where nothing stands behind bytes they were written, or cut off

@@ -1,10 +1,12 @@
 -- A run from a point, item by item, through faults of the store or up to the first.
 use Rattle.std.proofs.Common.{◌≡◌, inl, inr, ℕ, zero, suc, get_or, ◌+◌, ◌^◌, ◌<◌, ◌≤◌, Bool, false, List, [], ◌∷◌, ◌++◌, length, map, take, drop, Option, Ok, Err, refl, sym, ◌∙◌, ap, subst, arith, append_assoc}
 use Rattle.std.proofs.lemmas.Bool.{cases_lt}
-use Rattle.std.proofs.lemmas.List.{append-nil, length-take-le, take-append-drop, take_all}
+use Rattle.std.proofs.lemmas.List.{append-nil, length-append, length-take-le, take-append-drop, take_all}
 use Rattle.std.specs.Prelude.{IsSome}
 use Rattle.std.specs.Result.{IsErrOf}
-use Rattle.fw_outside.specs.Outside.{SinkView}
+use Rattle.fw_outside.specs.declared.fault.OutFault.{OutFault}
+use Rattle.fw_outside.specs.declared.fault.OutFault.TheVariants as output
+use Rattle.fw_outside.specs.Outside.{SinkView, Takes}
 use Rattle.fw_flow.specs.declared.step.Step.{Step}
 use Rattle.fw_flow.specs.declared.step.Step.TheVariants.{Inject, Deliver, Notify, Progress, Checkpoint, Persist, Fail, Recover, Collect, Ack}
 use Rattle.fw_flow.specs.Dataflow.{Dataflow, System}
@@ -26,19 +28,20 @@ use Rattle.fw_run.proofs.ReportLaws.{faults-append, reached-on, reports_text-app
 use Rattle.fw_run.proofs.StandingLaws.{holds-writes}
 use Rattle.fw_run.proofs.StoppedLaws.{stopped_begun, none_told}
 use Rattle.fw_run.proofs.TallyLaws.{counted-none, counted-more}
-use Rattle.fw_run.proofs.TakenLaws.{taken_on}
+use Rattle.fw_run.proofs.TakenLaws.{taken_more, taken_on}
 use Rattle.fw_command.proofs.WritingLaws.{written_nothing, written_more}
 use Rattle.fw_run.specs.declared.fault.RunFault.{RunFault}
 use Rattle.fw_run.specs.declared.fault.RunFault.TheVariants as stop
 use Rattle.fw_run.specs.declared.tally.StepCounts.{StepCounts}
 use Rattle.fw_run.specs.Enduring.{Point, EnduredRun, IsRunKnown, RoseBy}
-use Rattle.fw_run.specs.Performing.{IsTaken, TrustsItem, IsLeftAfter, IsItemTaken, IsItemBegun, IsCountAt, DoesItem, PrintsItem}
-use Rattle.fw_run.specs.Reports.{Report, faults_in, outcomes_in, reports_text}
+use Rattle.fw_run.specs.Performing.{IsCutAfter, IsTaken, TrustsItem, IsLeftAfter, IsItemTaken, IsItemBegun, IsCountAt, DoesItem, PrintsItem}
+use Rattle.fw_run.specs.Reports.{Report, faults_in, outcomes_in, reports_text, AreCutInLast}
 use Rattle.fw_run.specs.Stopping.{HoldsWrites, MayCallIn, IsLeftIn}
 use Rattle.fw_run.specs.Tallies.{tally_shown, with_tally}
-use Rattle.fw_run.specs.Through.{IsSoFar, BeginsWith, AgreesWith, IsPartOfLines, AreTaken, AreCutOff, StopsIn, IsStoppedByStore, IsStoppedByDamage, EndsItems}
+use Rattle.fw_run.specs.Through.{IsSoFar, BeginsWith, AgreesWith, IsPartOfLines, AreTaken, AreCutOff, CutsIn, IsStoppedByOutput, StopsIn, IsStoppedByStore, IsStoppedByDamage, EndsItems}
 use Rattle.fw_command.specs.Command.{Course}
 use Rattle.fw_command.specs.Writing.{IsWritten}
+use Rattle.fw_hold.specs.Going.{IsCutIn}
 
 -- ---- first items
 
@@ -191,7 +194,7 @@ fault_broken : (course : Course) (sys : System) (item : Item) (state : Machine) 
     (new : Engine) (after : Option Records) → IsWellFormedSystem sys → IsReached sys state
     → TrustsItem sys state item after → DoesItem course sys state item old counts bytes IsCount (Err f) new after
     → IsItemBegun course sys state item old bytes (IsCountAt f IsCount)
-fault_broken course sys item state old counts bytes IsCount (stop.Out f) new after w reached trusts d = d trusts
+fault_broken course sys item state old counts bytes IsCount (stop.Out f) new after w reached trusts d = (d trusts).0
 fault_broken course sys item state old counts bytes IsCount (stop.Engine f) new after w reached trusts d =
     stopped_begun course sys item state old counts bytes (IsLeftAfter sys item f new after) (IsCountAt (stop.Engine f) IsCount) d.1 w reached d.0
 
@@ -265,6 +268,62 @@ not_begun course Tells sys from items f IsCount first last w reached none taken 
   where
     of_none : (xs : List Item) → IsPartOfLines course sys from xs [] (IsCountAt f IsCount)
     of_none xs = part_of-first course sys w from reached [] xs (endured-none course sys from.state) [] [] (IsCountAt f IsCount) refl none
+
+-- ---- a fault of the output
+
+-- lines that were cut off behind others are cut off in the last of all
+cut_behind : (before : ℕ) (reports more : List Report) (bytes others : List ℕ) (fault : OutFault) (first last : SinkView) → bytes ≡ reports_text before reports
+    → (c : AreCutInLast (before + length reports) more others) → IsCutAfter (bytes ++ others) fault first last
+    → (reports ++ more ≡ (reports ++ c.shown) ++ c.last ∷ [])
+    × IsCutIn (reports_text before (reports ++ c.shown)) (reports_text (before + length (reports ++ c.shown)) (c.last ∷ [])) fault first last
+cut_behind before reports more bytes others fault first last e c t =
+    let place : (before + length reports) + length c.shown ≡ before + length (reports ++ c.shown) = omega (arith, length-append reports c.shown) in
+    let all : bytes ++ others ≡ reports_text before (reports ++ c.shown) ++ c.some =
+    ap (λ (b : List ℕ). b ++ others) e ∙ ap (λ (b : List ℕ). reports_text before reports ++ b) c.text
+    ∙ sym (append_assoc (reports_text before reports) (reports_text (before + length reports) c.shown) c.some)
+    ∙ ap (λ (b : List ℕ). b ++ c.some) (sym (reports_text-append before reports c.shown)) in (
+      ap (λ (rs : List Report). reports ++ rs) c.parts ∙ sym (append_assoc reports c.shown (c.last ∷ [])),
+      record {
+        part = c.some;
+        left = c.left;
+        parts = ap (λ (n : ℕ). reports_text n (c.last ∷ [])) (sym place) ∙ c.lines;
+        taken = subst (λ (b : List ℕ). Takes first.taken b last.taken) all t.taken;
+        faults = t.faults;
+        refusals = t.refusals;
+      },
+    )
+
+-- the output stops the run in the item of this place
+output_stops : (course : Course) (Tells : Type 0) (sys : System) (from : Point) (items : List Item) (i : ℕ) (old new : Engine) (before after : Option Records) (item : Item) (tally counts : StepCounts)
+    (a b c : ℕ) (first middle last : SinkView) → from.counts.faults ≡ 0 → (Tells → IsSome after) → AreTaken course Tells sys from items i tally (StandsFor sys old before) first middle
+    → i < length items → item ≡ get_or items i item → AreAscending (ids_of (keep_of new).entries)
+    → PrintsItem course old before item tally (RoseBy b c) (Err (stop.Out output.Failed)) new after counts middle last → RoseBy a b tally.faults
+    → IsStoppedByOutput course Tells sys from items after (RoseBy a c) first last
+output_stops course Tells sys from items i old new before after item tally counts a b c first middle last unfailed told u below e ordered p rose = record {
+  earlier = take i items;
+  item = item;
+  later = drop (i + 1) items;
+  parts = parts_at items i item below e;
+  stops = λ k.
+      let s = u.so_far (run_known-less course Tells sys from.state (take i items) (item ∷ []) k) in
+      let r = s.run in
+      let d = (p.does sys r.last s.so (run_trusts course Tells sys from.state (take i items) item after told k r)).1 refl in
+      let cut = subst (λ (n : ℕ). AreCutInLast n d.of_item.reports p.bytes) (number_of from tally r.reports s.counted) d.cut in
+      let behind = cut_behind from.counts.steps r.reports d.of_item.reports u.bytes p.bytes output.Failed first last s.text cut (taken_more u.bytes p.bytes output.Failed first middle last u.written p.taken) in
+      let faults : tally.faults + faults_in d.of_item.reports ≡ faults_in (r.reports ++ d.of_item.reports) =
+      omega (arith, counted_faults from tally r.reports unfailed s.counted, faults-append r.reports d.of_item.reports) in
+      record {
+        part = d.part;
+        begun = d.begun;
+        run = endured-next course sys from.state (take i items) d.part r d.of_item;
+        told = r.reports ++ cut.shown;
+        cut = cut.last;
+        reports = behind.0;
+        written = behind.1;
+        faults = subst (RoseBy a c) faults (rose_more a b c tally.faults (faults_in d.of_item.reports) rose d.faults);
+        so = holds-writes sys new ordered after d.of_item.last d.stands;
+      };
+}
 
 -- ---- a fault of the store
 
@@ -364,7 +423,9 @@ pub ends-at : (course : Course) (Tells : Type 0) (sys : System) (from : Point) (
     → ((id : ℕ) → IsErrOf {T = Unit {0}} (Err f) (stop.Engine (fault.Damaged id)) → item ≡ One Recover)
     → ((id : ℕ) → IsErrOf {T = Unit {0}} (Err f) (stop.Engine (fault.Damaged id)) → IsDamaged old id given)
     → EndsItems course Tells sys from items f (RoseBy a c) after given first last
-ends-at course Tells sys from items i start old new begun before after given item tally counts a b c (stop.Out f) first middle last st same unfailed told u below e ordered p rose stops recovers damaged = tt
+ends-at course Tells sys from items i start old new begun before after given item tally counts a b c (stop.Out output.Failed) first middle last st same unfailed told u below e ordered p rose stops recovers damaged =
+    output_stops course Tells sys from items i old new before after item tally counts a b c first middle last unfailed told u below e ordered p rose
+ends-at course Tells sys from items i start old new begun before after given item tally counts a b c (stop.Out output.NoMemory) first middle last st same unfailed told u below e ordered p rose stops recovers damaged = tt
 ends-at course Tells sys from items i start old new begun before after given item tally counts a b c (stop.Engine fault.StoreFault) first middle last st same unfailed told u below e ordered p rose stops recovers damaged =
     let h = stops refl in (
       h.0,

@@ -5,7 +5,7 @@ use Rattle.fw_outside.specs.Outside.{StoreView, SinkView}
 use Rattle.fw_lines.specs.declared.refusal.Refusal.{Refusal}
 use Rattle.fw_run.specs.declared.status.Status.{Status}
 use Rattle.fw_run.specs.declared.status.Status.TheVariants.{Done, BadWords, Refused, WriteFault, StoreFault, Damaged, NoMemory}
-use Rattle.fw_run.specs.Call.{Call, AnswersTexts, CountsFaults, CountsWrites, PrintsAll, PrintsPart, PrintsFirst, LeavesStore, StopsAtStore, StopsAtDamage, HasRefused, KeepsFolder, KeepsStore}
+use Rattle.fw_run.specs.Call.{Call, AnswersTexts, CountsFaults, CountsWrites, PrintsAll, PrintsPart, PrintsFirst, LeavesStore, StopsAtOutput, StopsAtStore, StopsAtDamage, HasRefused, KeepsFolder, KeepsStore}
 use Rattle.fw_run.specs.Status.{TellsOfRoot, read_faults_told, status_number}
 use Rattle.fw_command.specs.Command.{IsUnseen}
 use Rattle.fw_command.specs.Writing.{NeverFall}
@@ -54,6 +54,11 @@ pub record RunAnswers {F K O : Type 0} (known : Known F K O) (call : Call) (befo
   -- 7: the output failed, and first bytes of what is printed were written.
   pub write_fault : status ≡ WriteFault → PrintsPart (TellsRecords known after) call (known.store before.store).faults
       (known.store after.store).faults output.Failed (known.out before.out) (known.out after.out)
+  -- Of a run: the lines of all steps that were taken but the last were written, and the output failed in those of the last, or in the
+  -- last line; as many faults of the store were told until then as its count rose by; and the store holds the records of what its nodes
+  -- wrote until then. That is known as at 0, up to the item in which the output failed.
+  pub last_taken : status ≡ WriteFault → StopsAtOutput (TellsRecords known after) call (known.store before.store).faults
+      (known.store after.store).faults (known.store after.store).records (known.out before.out) (known.out after.out)
   -- 8: the store failed, in a step that may call it. A run ends there: the step was enabled (a collection sweeps where it is idle
   -- too), the lines of the steps before were written (of generated texts nothing), and the store holds the records of what this
   -- step leaves. `endure` goes on to its end: all was written, with a line for each step in which the store failed, and the store

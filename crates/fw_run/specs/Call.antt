@@ -11,7 +11,7 @@ use Rattle.fw_run.specs.declared.status.Status.{Status}
 use Rattle.fw_run.specs.declared.status.Status.TheVariants.{Done, Refused, ReadFault, WriteFault, StoreFault, Damaged, NoMemory}
 use Rattle.fw_command.specs.Command.{Command, Task, takes_steps, tells_denotation, lists_nodes, Manner, manner_of, GoesOnThrough, asks_folder}
 use Rattle.fw_command.specs.DenotationText.{PrintsDenotation}
-use Rattle.fw_run.specs.Ends.{PrintsOfRun, NoFaults, NoneLeft, SomeLeft, IsWholeRun, IsStoreFault, IsDamageIn}
+use Rattle.fw_run.specs.Ends.{PrintsOfRun, NoFaults, NoneLeft, SomeLeft, IsWholeRun, IsOutputFault, IsStoreFault, IsDamageIn}
 use Rattle.fw_run.specs.Enduring.{RoseIfOn, RoseByFaults, RoseOrFull, StaysOrRose}
 use Rattle.fw_command.specs.Listing.{check_text}
 use Rattle.fw_run.specs.Status.{IsTold, write_faults_told, store_faults_told, note_line, status_number}
@@ -119,6 +119,12 @@ pub record IsRunOf (call : Call) (IsSo : Manner → System → List Item → Typ
 abbrev pub LeavesStore : Type 0 → Call → Option Records → SinkView → SinkView → Type 0
 LeavesStore Tells call records before after =
     (command : Command) → call.command ≡ Some command → IsSome (manner_of command) → IsRunOf call (IsWholeRun Tells records before after)
+
+-- if the call is a run, its output failed in the lines of a step or in the last line; the store's count rose from the first number to the
+-- second
+abbrev pub StopsAtOutput : Type 0 → Call → ℕ → ℕ → Option Records → SinkView → SinkView → Type 0
+StopsAtOutput Tells call count last records before after =
+    (command : Command) → call.command ≡ Some command → IsSome (manner_of command) → IsRunOf call (IsOutputFault Tells count last records before after)
 
 -- the call is a run, and its store failed
 abbrev pub StopsAtStore : Type 0 → Call → ℕ → ℕ → Option Records → SinkView → SinkView → Type 0

@@ -1,5 +1,6 @@
 -- How a run ends, by its manner.
-use Rattle.std.specs.Prelude.{◌≡◌, ℕ, ◌≤◌, Bool, true, false, List, [], ◌++◌, take, Option, None, Result, Ok, Err, OnOk, OnErr, IsErrOf}
+use Rattle.std.specs.Prelude.{◌≡◌, ◌⊎◌, ℕ, ◌≤◌, Bool, true, false, List, [], ◌++◌, take, Option, None, Result, Ok, Err, OnOk, OnErr, IsErrOf}
+use Rattle.fw_outside.specs.declared.fault.OutFault.TheVariants as output
 use Rattle.fw_outside.specs.Outside.{SinkView}
 use Rattle.fw_flow.specs.Dataflow.{System}
 use Rattle.fw_schedule.specs.declared.item.Item.{Item}
@@ -13,9 +14,10 @@ use Rattle.fw_run.specs.Performing.{WritesUntil}
 use Rattle.fw_run.specs.Reports.{Report, faults_in, reports_text}
 use Rattle.fw_run.specs.Stopping.{HoldsWrites}
 use Rattle.fw_run.specs.Tallies.{last_line, tally_shown, with_tally}
-use Rattle.fw_run.specs.Through.{BeginsWith, IsStoppedByStore, IsStoppedByDamage}
+use Rattle.fw_run.specs.Through.{BeginsWith, IsStoppedByOutput, IsStoppedByStore, IsStoppedByDamage}
 use Rattle.fw_command.specs.Command.{Manner}
 use Rattle.fw_command.specs.Writing.{IsWritten, IsCutOff, WritesText}
+use Rattle.fw_hold.specs.Going.{IsCutIn}
 
 -- ---- what is told
 
@@ -113,6 +115,23 @@ pub record IsDone (Tells : Type 0) (IsCount : ℕ → Type 0) (records : Option 
 abbrev pub IsWholeRun : Type 0 → Option Records → SinkView → SinkView → Manner → System → List Item → Type 0
 IsWholeRun Tells records before after manner sys items = IsDone Tells (λ faults. faults ≡ 0) records before after manner sys items
 
+-- The run came to its end, and the output failed in the last line. If it is known what comes of the items, of the number of faults of a run
+-- over them this is true, and the store holds the writes of its last state.
+abbrev pub IsLastLineCut : Type 0 → (ℕ → Type 0) → Option Records → SinkView → SinkView → Manner → System → List Item → Type 0
+IsLastLineCut Tells IsCount records before after manner sys items =
+    let from = first_point manner sys in AreKnown manner Tells sys items → (run : EnduredRun manner.course sys from.state items)
+    × IsCutIn (seen_lines manner.is_seen (reports_text from.counts.steps run.reports))
+    (last_line manner.last (with_tally from.counts (tally_shown run.reports))) output.Failed before after
+    × IsCount (faults_in run.reports) × HoldsWrites sys records run.last
+
+-- The output failed: in the lines of a step, if they are seen, or in the last line. So often the store failed until then as its count rose,
+-- from the first number to the second.
+abbrev pub IsOutputFault : Type 0 → ℕ → ℕ → Option Records → SinkView → SinkView → Manner → System → List Item → Type 0
+IsOutputFault Tells count last records before after manner sys items =
+    ((manner.is_seen ≡ true)
+    × IsStoppedByOutput manner.course Tells sys (first_point manner sys) items records (RoseBy count last) before after)
+    ⊎ IsLastLineCut Tells (RoseBy count last) records before after manner sys items
+
 -- The store failed, if its count rose from the first number to the second: it ended the run, and the lines of the steps before were
 -- written, if they are seen; or the run went on to its end, and tells each fault.
 pub record IsStoreFault (Tells : Type 0) (count last : ℕ) (records : Option Records) (before after : SinkView) (manner : Manner) (sys : System)
@@ -134,6 +153,7 @@ pub record EndsRun (Tells : Type 0) (manner : Manner) (sys : System) (items : Li
   pub cut_off : OnErr answer (WritesText (PrintsOfRun Tells (RoseIfOn count last) SomeLeft manner sys items)
       (λ printed. WritesUntil printed answer before after))
   pub left : OnOk answer (IsWholeRun Tells records before after manner sys items)
+  pub last_taken : IsErrOf answer (stop.Out output.Failed) → IsOutputFault Tells count last records before after manner sys items
   pub store_fault : IsErrOf answer (stop.Engine fault.StoreFault) → IsStoreFault Tells count last records before after manner sys items
   pub damaged : (id : ℕ) → IsErrOf answer (stop.Engine (fault.Damaged id)) → IsDamageIn Tells count last id given before after manner sys items
   pub none : OnOk answer (last ≡ count)

@@ -9,7 +9,7 @@ use Rattle.fw_schedule.specs.declared.item.Item.TheVariants.{One, Auto}
 use Rattle.fw_model.specs.Auto.{IsAutoRun}
 use Rattle.fw_model.specs.Machine.{Machine, first_state}
 use Rattle.fw_model.specs.Steps.{StepsTo, Run}
-use Rattle.fw_running.specs.Steps.{FirstMayCall, MayCallStore, IsStepEnabled, ReadsNoCheckpoint}
+use Rattle.fw_running.specs.Steps.{FirstMayCall, MayCallStore, NeedsStore, ReadsNoCheckpoint}
 use Rattle.fw_run.specs.declared.tally.StepCounts.{StepCounts}
 use Rattle.fw_run.specs.Reports.{Report, came, not_taken, unswept, faults_in, outcomes_in, AreLinesOf, RunShown}
 use Rattle.fw_run.specs.Tallies.{tally_of}
@@ -29,12 +29,13 @@ start_of at_first sys = record { state = first_state sys; counts = tally_of [] }
 -- ---- steps
 
 -- The step leads from a state to the next one, with this report; these are the steps that the machine takes. The store fails only in
--- a step that may call it and is enabled; in a collection, which sweeps last, also where that is idle.
+-- a step that may call it, and that asks for a write or is a recovery that is enabled; in a collection, which sweeps last, also where that
+-- is idle.
 abbrev pub Endures : Showing → System → Machine → Step → List Step → Report → Machine → Type 0
 Endures showing sys state step steps (came outcome lines) next =
     StepsTo sys state step next outcome × AreLinesOf showing sys state outcome lines × (steps ≡ step ∷ [])
 Endures showing sys state step steps not_taken next =
-    MayCallStore sys.flow step × IsStepEnabled sys state step × (step ≡ Collect → ⊥) × (steps ≡ []) × (next ≡ state)
+    MayCallStore sys.flow step × NeedsStore sys state step × (step ≡ Collect → ⊥) × (steps ≡ []) × (next ≡ state)
 Endures showing sys state step steps (unswept outcome) next =
     (step ≡ Collect) × StepsTo sys state Collect next outcome × (steps ≡ Collect ∷ [])
 

@@ -3,6 +3,7 @@ use Rattle.std.specs.Prelude.{◌≡◌, ℕ, ◌+◌, ◌<◌, ◌≤◌, List,
 use Rattle.std.specs.declared.alloc.Global.{Global}
 use Rattle.std.specs.declared.vec.Vec.{Vec}
 use Rattle.fw_outside.specs.declared.fault.OutFault.{OutFault}
+use Rattle.fw_outside.specs.declared.fault.OutFault.TheVariants as output
 use Rattle.fw_outside.specs.Outside.{SinkView, Takes}
 use Rattle.fw_flow.specs.declared.step.Step.{Step}
 use Rattle.fw_flow.specs.declared.step.Step.TheVariants.{Recover}
@@ -21,8 +22,8 @@ use Rattle.fw_run.specs.declared.fault.RunFault.{RunFault}
 use Rattle.fw_run.specs.declared.fault.RunFault.TheVariants as stop
 use Rattle.fw_run.specs.declared.tally.StepCounts.{StepCounts}
 use Rattle.fw_run.specs.Enduring.{EnduredItem, RoseBy}
-use Rattle.fw_run.specs.Reports.{Report, faults_in, reports_text, RunShown}
-use Rattle.fw_run.specs.Stopping.{ItemBegins, IsLeftIn}
+use Rattle.fw_run.specs.Reports.{Report, faults_in, reports_text, AreCutInLast, RunShown}
+use Rattle.fw_run.specs.Stopping.{ItemBegins, IsPartOf, IsLeftIn}
 use Rattle.fw_run.specs.Tallies.{AreOfSteps, tally_shown, with_tally}
 use Rattle.fw_command.specs.Command.{Course, Showing}
 use Rattle.fw_command.specs.Writing.{faults_by, IsRefusedBy, IsWritten, IsPartWritten, IsCutOff}
@@ -76,6 +77,17 @@ pub record IsItemBegun (course : Course) (sys : System) (state : Machine) (item 
   pub text : reports_text old.steps of_item.reports ≡ bytes ++ others
   pub faults : IsCount (faults_in of_item.reports)
 
+-- So much of the item as was begun was taken from the state, and these are the lines of its steps, cut off in those of the last one; of the
+-- number of its faults this is true; and the engine then stands for the state to which it leads.
+pub record IsItemCut (course : Course) (sys : System) (state : Machine) (item : Item) (old : StepCounts) (bytes : List ℕ) (IsCount : ℕ → Type 0)
+    (engine : Engine) (records : Option Records) : Type 0 where
+  pub part : Item
+  pub begun : IsPartOf item part
+  pub of_item : EnduredItem course sys state part
+  pub cut : AreCutInLast old.steps of_item.reports bytes
+  pub faults : IsCount (faults_in of_item.reports)
+  pub stands : StandsFor sys engine records of_item.last
+
 -- The machine begins the item and comes to a state of which this is true; these are the lines of its steps so far, in none of which the
 -- store failed, and so they are counted.
 pub record IsItemStopped (showing : Showing) (sys : System) (state : Machine) (item : Item) (old new : StepCounts) (bytes : List ℕ)
@@ -110,12 +122,14 @@ DoesItem course sys state item old new bytes IsCount (Ok value) engine after =
     TrustsItem sys state item after → IsItemTaken course sys state item old new bytes engine after
 DoesItem course sys state item old new bytes IsCount (Err (stop.Out fault)) engine after =
     TrustsItem sys state item after → IsItemBegun course sys state item old bytes IsCount
+    × (fault ≡ output.Failed → IsItemCut course sys state item old bytes IsCount engine after)
 DoesItem course sys state item old new bytes IsCount (Err (stop.Engine fault)) engine after =
     IsItemStopped course.showing sys state item old new bytes (IsLeftAfter sys item fault engine after)
     × IsCountAt (stop.Engine fault) IsCount 0
 
 -- What an answer to an item says: some bytes were written, and from each state for which the engine stood they are the lines of the
--- item's steps, or first bytes of these; of the number of their faults this is true.
+-- item's steps, or first bytes of these, cut off in those of the step that was taken last where the output failed; of the number of their
+-- faults this is true.
 pub record PrintsItem (course : Course) (old : Engine) (before : Option Records) (item : Item) (counted : StepCounts) (IsCount : ℕ → Type 0)
     (answer : Result (Unit {0}) RunFault) (new : Engine) (after : Option Records) (counts : StepCounts) (first last : SinkView) : Type 0 where
   pub bytes : List ℕ

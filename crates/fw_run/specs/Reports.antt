@@ -1,5 +1,5 @@
 -- What comes of steps through faults of the store, and its lines.
-use Rattle.std.specs.Prelude.{◌≡◌, ℕ, ◌+◌, Bool, true, false, List, [], ◌∷◌, ◌++◌, codes}
+use Rattle.std.specs.Prelude.{◌≡◌, ℕ, ◌+◌, Bool, true, false, List, [], ◌∷◌, ◌++◌, length, codes}
 use Rattle.std.specs.Fmt.{decimal}
 use Rattle.fw_flow.specs.declared.step.Step.{Step}
 use Rattle.fw_flow.specs.Counting.{how_many}
@@ -77,3 +77,13 @@ report_text number (unswept outcome) = fault_line number
 abbrev pub reports_text : ℕ → List Report → List ℕ
 reports_text before [] = []
 reports_text before (report ∷ reports) = report_text (before + 1) report ++ reports_text (before + 1) reports
+
+-- The bytes are the lines of steps that come after so many others, but for those of the last one, of which they are first bytes.
+pub record AreCutInLast (before : ℕ) (reports : List Report) (bytes : List ℕ) : Type 0 where
+  pub shown : List Report
+  pub last : Report
+  pub parts : reports ≡ shown ++ last ∷ []
+  pub some : List ℕ
+  pub left : List ℕ
+  pub lines : reports_text (before + length shown) (last ∷ []) ≡ some ++ left
+  pub text : bytes ≡ reports_text before shown ++ some

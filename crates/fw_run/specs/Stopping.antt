@@ -1,5 +1,5 @@
 -- What a run leaves in its store, and where a store may stop it.
-use Rattle.std.specs.Prelude.{◌≡◌, ℕ, ◌<◌, List, [], length, Option}
+use Rattle.std.specs.Prelude.{◌≡◌, ℕ, ◌<◌, ◌≤◌, List, [], length, Option}
 use Rattle.std.specs.List.{Contains}
 use Rattle.fw_flow.specs.declared.step.Step.{Step}
 use Rattle.fw_flow.specs.declared.step.Step.TheVariants.{Recover}
@@ -31,12 +31,17 @@ abbrev pub ItemBegins : System → Machine → Item → List Step → Machine �
 ItemBegins sys state (One step) steps now = (steps ≡ []) × (now ≡ state)
 ItemBegins sys state (Auto most) steps now = (length steps < most) × IsAutoRun sys state (length steps) steps now
 
+-- so much of an item was begun: its one step, or of `auto` as many steps as it may take or fewer
+abbrev pub IsPartOf : Item → Item → Type 0
+IsPartOf (One step) part = part ≡ One step
+IsPartOf (Auto most) part = (few : ℕ) × (few ≤ most) × (part ≡ Auto few)
+
 -- a step that the item names may call the store
 abbrev pub MayCallIn : Dataflow → Item → Type 0
 MayCallIn flow (One step) = MayCallStore flow step
 MayCallIn flow (Auto most) = Unit {0}
 
--- what a fault of the store in the item's step leaves: of `auto` the first that is enabled, which may call the store, leaves the state
+-- what a fault of the store in the item's step leaves: of `auto` the first that is enabled, which asks for a write, leaves the state
 abbrev pub IsLeftIn : System → Machine → Item → (Machine → Type 0) → Type 0
 IsLeftIn sys state (One step) P = IsLeftBy sys state step P
 IsLeftIn sys state (Auto most) P = FirstMayCall sys state × P state

@@ -1,5 +1,6 @@
 -- Items that are taken from a point, through faults of the store or up to the first, where an engine takes their steps.
-use Rattle.std.specs.Prelude.{◌≡◌, ℕ, ◌≤◌, false, List, ◌∷◌, ◌++◌, length, take, Option, Some, Result, Ok, Err}
+use Rattle.std.specs.Prelude.{◌≡◌, ℕ, ◌+◌, ◌≤◌, false, List, [], ◌∷◌, ◌++◌, length, take, Option, Some, Result, Ok, Err}
+use Rattle.fw_outside.specs.declared.fault.OutFault.TheVariants as output
 use Rattle.fw_outside.specs.Outside.{SinkView}
 use Rattle.fw_flow.specs.declared.step.Step.{Step}
 use Rattle.fw_flow.specs.declared.step.Step.TheVariants.{Recover}
@@ -16,10 +17,11 @@ use Rattle.fw_run.specs.declared.tally.StepCounts.{StepCounts}
 use Rattle.fw_run.specs.Enduring.{Point, EnduredRun, IsRunKnown}
 use Rattle.fw_run.specs.Performing.{IsTaken, IsCountAt}
 use Rattle.fw_run.specs.Reports.{Report, faults_in, reports_text, RunShown}
-use Rattle.fw_run.specs.Stopping.{HoldsWrites, ItemBegins, MayCallIn, IsLeftIn, IsReadIn}
+use Rattle.fw_run.specs.Stopping.{HoldsWrites, ItemBegins, IsPartOf, MayCallIn, IsLeftIn, IsReadIn}
 use Rattle.fw_run.specs.Tallies.{tally_shown, with_tally}
 use Rattle.fw_command.specs.Command.{Course}
 use Rattle.fw_command.specs.Writing.{IsWritten}
+use Rattle.fw_hold.specs.Going.{IsCutIn}
 
 -- ---- items
 
@@ -116,10 +118,37 @@ pub record IsStoppedByDamage (course : Course) (Tells : Type 0) (sys : System) (
   pub stops : IsRunKnown course Tells sys from.state earlier → (run : EnduredRun course sys from.state earlier)
       × (printed ≡ reports_text from.counts.steps run.reports) × IsCount (faults_in run.reports) × IsReadIn sys entry run.last
 
--- where the store ended the run, or a damaged record
+-- The items were taken and so much of one more as was begun, to a state of which this is true, as it is of the number of their faults. The
+-- lines of all steps but the last were written, and the output failed in those of the last.
+pub record CutsIn (course : Course) (sys : System) (from : Point) (items : List Item) (item : Item) (IsCount : ℕ → Type 0) (IsSo : Machine → Type 0)
+    (first last : SinkView) : Type 0 where
+  pub part : Item
+  pub begun : IsPartOf item part
+  pub run : EnduredRun course sys from.state (items ++ part ∷ [])
+  pub told : List Report
+  pub cut : Report
+  pub reports : run.reports ≡ told ++ cut ∷ []
+  pub written : IsCutIn (reports_text from.counts.steps told) (reports_text (from.counts.steps + length told) (cut ∷ [])) output.Failed first last
+  pub faults : IsCount (faults_in run.reports)
+  pub so : IsSo run.last
+
+-- The run was stopped by its output in this one of the items. If it is known what comes of the items up to it, the output failed in the lines
+-- of the step that was taken last; of the number of faults until then this is true; and the store holds the writes of what that step leaves.
+pub record IsStoppedByOutput (course : Course) (Tells : Type 0) (sys : System) (from : Point) (items : List Item) (records : Option Records)
+    (IsCount : ℕ → Type 0) (first last : SinkView) : Type 0 where
+  pub earlier : List Item
+  pub item : Item
+  pub later : List Item
+  pub parts : items ≡ earlier ++ item ∷ later
+  pub stops : IsRunKnown course Tells sys from.state (earlier ++ item ∷ [])
+      → CutsIn course sys from earlier item IsCount (HoldsWrites sys records) first last
+
+-- where the output ended the run, the store or a damaged record
 abbrev pub EndsItems : Course → Type 0 → System → Point → List Item → RunFault → (ℕ → Type 0) → Option Records → Option (ℕ × List ℕ)
     → SinkView → SinkView → Type 0
-EndsItems course Tells sys from items (stop.Out f) IsCount records given first last = Unit {0}
+EndsItems course Tells sys from items (stop.Out output.Failed) IsCount records given first last =
+    IsStoppedByOutput course Tells sys from items records IsCount first last
+EndsItems course Tells sys from items (stop.Out output.NoMemory) IsCount records given first last = Unit {0}
 EndsItems course Tells sys from items (stop.Engine fault.StoreFault) IsCount records given first last =
     (course.goes_on ≡ false) × IsStoppedByStore course Tells sys from items records (λ printed. IsWritten printed first last)
 EndsItems course Tells sys from items (stop.Engine (fault.Damaged id)) IsCount records given first last =

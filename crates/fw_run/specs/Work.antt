@@ -1,5 +1,6 @@
 -- What a command does with what its texts spell.
 use Rattle.std.specs.Prelude.{◌≡◌, ℕ, Bool, false, List, Option, Result, OnOk, OnErr, IsErrOf}
+use Rattle.fw_outside.specs.declared.fault.OutFault.TheVariants as output
 use Rattle.fw_outside.specs.Outside.{StoreView, SinkView}
 use Rattle.fw_flow.specs.Dataflow.{Dataflow, System, system_of}
 use Rattle.fw_flow.specs.WellFormed.{IsWellFormedSystem}
@@ -15,7 +16,7 @@ use Rattle.fw_command.specs.Command.{Command, Task, takes_steps, tells_denotatio
 use Rattle.fw_command.specs.DenotationText.{PrintsDenotation}
 use Rattle.fw_running.specs.declared.fault.EngineFault.TheVariants as fault
 use Rattle.fw_run.specs.declared.fault.RunFault.TheVariants as stop
-use Rattle.fw_run.specs.Ends.{PrintsOfRun, NoFaults, NoneLeft, SomeLeft, StaysUnseen, IsWholeRun, IsStoreFault, IsDamageIn}
+use Rattle.fw_run.specs.Ends.{PrintsOfRun, NoFaults, NoneLeft, SomeLeft, StaysUnseen, IsWholeRun, IsOutputFault, IsStoreFault, IsDamageIn}
 use Rattle.fw_run.specs.Enduring.{RoseIfOn, RoseByFaults, StaysOrRose}
 use Rattle.fw_run.specs.Fault.{faults_after_run}
 use Rattle.fw_command.specs.Manner.{told_in}
@@ -116,12 +117,13 @@ StaysUnlessRun (Denote fed) before after = after ≡ before
 StaysUnlessRun (Check flow) before after = after ≡ before
 
 -- What is answered of a work, by what the store tells at its end: all that it prints was written, or it was cut off by the fault; what a run
--- leaves in the store, and where the store or a damaged record ended it; and how often the store failed.
+-- leaves in the store, and where the output, the store or a damaged record ended it; and how often the store failed.
 pub record EndsWork {T : Type 0} (Tells : Type 0) (work : Work) (answer : Result T RunFault) (before after : StoreView) (out wrote : SinkView)
     : Type 0 where
   pub printed : OnOk answer (PrintsWork Tells NoFaults NoneLeft work answer out wrote)
   pub cut_off : OnErr answer (PrintsWork Tells (RoseIfOn before.faults after.faults) SomeLeft work answer out wrote)
   pub left : OnOk answer (IfRun work (IsWholeRun Tells after.records out wrote))
+  pub last_taken : IsErrOf answer (stop.Out output.Failed) → IfRun work (IsOutputFault Tells before.faults after.faults after.records out wrote)
   pub store_fault : IsErrOf answer (stop.Engine fault.StoreFault)
       → IsRun work (IsStoreFault Tells before.faults after.faults after.records out wrote)
   pub damaged : (id : ℕ) → IsErrOf answer (stop.Engine (fault.Damaged id))

@@ -85,8 +85,8 @@ fn run_or_hold<F: Folder, K: Store, O: Sink>(
     }
 }
 
-// Tells a status by its line. Where there is no memory for that line, this is told, and is the status.
-fn tell<N: Sink>(alloc: Global, status: Status, notes: &mut N) -> Status
+/// Tells a status by its line on the notes. Where there is no memory for that line, this is told, and is the status.
+pub fn tell<N: Sink>(alloc: Global, status: Status, notes: &mut N) -> Status
     ensures status { IsTellingOf status result }
     ensures notes { TellsNotes N.view result notes.old notes.new }
 {

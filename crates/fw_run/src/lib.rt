@@ -14,6 +14,6 @@ mod text;
 mod through;
 mod work;
 
-pub use command::falkirk;
+pub use command::{falkirk, tell};
 pub use fw_lines::{Code, Refusal};
 pub use status::Status;

@@ -88,7 +88,7 @@ fn perform_step<K: Store, O: Sink>(
     let reasons = reasons_for(alloc, showing, engine, step)?;
     let stepped = engine.step(step, store)?;
     tally.count(&stepped);
-    print(alloc, engine.flow(), stepped, &reasons, out)?;
+    print(alloc, engine.flow(), &stepped, &reasons, out)?;
     Ok(())
 }
 
@@ -121,7 +121,7 @@ fn perform_auto<K: Store, O: Sink>(
             return Ok(());
         }
         tally.count(&stepped);
-        print(alloc, engine.flow(), stepped, "", out)?;
+        print(alloc, engine.flow(), &stepped, "", out)?;
     }
     Ok(())
 }
@@ -137,11 +137,11 @@ fn is_idle(stepped: &Stepped) -> bool
 fn print<O: Sink>(
     alloc: Global,
     flow: &Flow,
-    stepped: Stepped,
+    stepped: &Stepped,
     reasons: &str,
     out: &mut O,
 ) -> Result<(), OutFault>
-    ensures { Writes (outcome_text flow.now (outcome_of stepped) ++ reasons.now) result (O.view out.old) (O.view out.new) }
+    ensures { Writes (outcome_text flow.now (outcome_of stepped.now) ++ reasons.now) result (O.view out.old) (O.view out.new) }
 {
     match lines_of(alloc, flow, stepped, reasons)? {
         Some(line) => out.write(&line),

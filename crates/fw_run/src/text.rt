@@ -1,5 +1,6 @@
 //! The lines that are printed.
-ghost use Rattle.std.specs.Prelude.{◌≡◌, ◌++◌, IfOk, string_bytes};
+ghost use Rattle.std.specs.Prelude.{◌≡◌, ◌++◌, [], IfOk, IsTrue, string_bytes};
+ghost use Rattle.fw_flow.specs.Dataflow.{Dataflow};
 ghost use Rattle.fw_running.specs.EffectText.{outcome_text};
 ghost use Rattle.fw_running.specs.Steps.{outcome_of};
 ghost use Rattle.fw_run.specs.Printed as spec;
@@ -12,7 +13,7 @@ ghost use Rattle.fw_run.specs.declared.status.Status.TheVariants as Status;
 
 use crate::tally::StepCounts;
 use fw_command::{GenerateWords, LastLine};
-use fw_engine::Stepped;
+use fw_engine::{Effect, Stepped};
 use fw_flow::Flow;
 use fw_lines::Refusal;
 use std::alloc::{AllocError, Global};
@@ -21,17 +22,27 @@ use std::alloc::{AllocError, Global};
 pub fn lines_of(
     alloc: Global,
     flow: &Flow,
-    stepped: Stepped,
+    stepped: &Stepped,
     behind: &str,
 ) -> Result<Option<Vec<u8>>, AllocError>
-    ensures { IfOk result (λ line. shown_bytes line ≡ outcome_text flow.now (outcome_of stepped) ++ behind.now) }
+    ensures { IfOk result (λ line. shown_bytes line ≡ outcome_text flow.now (outcome_of stepped.now) ++ behind.now) }
 {
+    if behind.is_empty() && is_silent(stepped) {
+        return Ok(None);
+    }
     let shown = stepped.display(flow);
     let lines = format!(in alloc; "{shown}{behind}")?;
     if lines.is_empty() {
         return Ok(None);
     }
     Ok(Some(lines.into_bytes()))
+}
+
+// Whether nothing is shown of the step: most show nothing.
+fn is_silent(stepped: &Stepped) -> bool
+    ensures { (flow : Dataflow) → IsTrue result → outcome_text flow (outcome_of stepped.now) ≡ [] }
+{
+    matches!(stepped, Stepped::Idle | Stepped::Did(Effect::Quiet))
 }
 
 /// The last line of a run whose steps were counted so.

@@ -4,7 +4,7 @@ use Rattle.fw_run.proofs.work.print_work.Goals as goal
 pub returns-in-Run-clause-ends : goal.returns-in-Run-clause-ends
 returns-in-Run-clause-ends g c =
     let e = c.perform.ensures.ends in
-    rw c.in-Run.is (record { printed = e.printed; cut_off = e.cut_off; left = e.left; store_fault = e.store_fault; damaged = e.damaged; none = e.none; first = e.first; some = e.some; rises = e.rises })
+    rw c.in-Run.is (record { printed = e.printed; cut_off = e.cut_off; left = e.left; last_taken = e.last_taken; store_fault = e.store_fault; damaged = e.damaged; none = e.none; first = e.first; some = e.some; rises = e.rises })
 
 pub returns-in-Run-clause-store_stays : goal.returns-in-Run-clause-store_stays
 returns-in-Run-clause-store_stays g c = rw c.in-Run.is tt
@@ -17,6 +17,7 @@ returns-in-Ok-clause-ends g c = rw c.in-Denote.is (record {
   printed = c.in-Ok.ensures;
   cut_off = tt;
   left = tt;
+  last_taken = λ e. absurd (cc);
   store_fault = λ e. absurd (cc);
   damaged = λ id e. absurd (cc);
   none = refl;
@@ -30,6 +31,7 @@ returns-in-Denote-clause-ends g c = rw c.in-Denote.is (record {
   printed = tt;
   cut_off = c.in-Err.ensures;
   left = tt;
+  last_taken = λ e. tt;
   store_fault = λ e. absurd (cc);
   damaged = λ id e. absurd (cc);
   none = tt;

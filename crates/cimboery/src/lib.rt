@@ -52,5 +52,5 @@ pub use fw_schedule::{
     read_schedule,
 };
 pub use fw_session::{Arrivals, FeedFault, Session};
-pub use fw_telling::{ReadFolder, TellingSink};
+pub use fw_telling::{NamedFiles, ReadFolder, TellingSink};
 pub use fw_time::{Bounds, Stamp};

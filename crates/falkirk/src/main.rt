@@ -1,15 +1,14 @@
-//! The command `falkirk`: the top call over real files, standard output, standard error and a store in memory. Each of them tells: the
-//! files what was read of them, the streams what they answered for.
+//! The command `falkirk`: the top calls over real files, standard input, output and error, and a store in memory. Each of them tells: the
+//! files what was read of them, standard input the lines that it gave, the others what they answered for.
 #![tactic(auto)]
 
-mod live;
-
-use crate::live::{is_live, live};
 use fw_advice::{AckSink, Call, Ended, Program, tell_after, warn_before};
-use fw_choosing::{falkirk_choose, is_choosing};
+use fw_choosing::{falkirk_choose, is_choosing, names_of_texts};
+use fw_lines::INPUTS_LIMIT;
+use fw_live::{StreamLines, falkirk_live, is_live};
 use fw_outside::{FaultlessStore, Sink};
 use fw_run::{Status, falkirk};
-use fw_telling::{TellingSink, read_texts};
+use fw_telling::{ReadFolder, TellingSink, read_texts};
 use std::io::{ErrorKind, IsTerminal};
 use std::process::ExitCode;
 use std::{env, io};
@@ -62,7 +61,8 @@ fn run_words<N: Sink>(rt: &HostRuntime, words: &[String], notes: &mut N) -> u8 {
 
 // What the call of the commands over texts of choices answers to the words.
 fn choose<O: Sink, N: Sink>(rt: &HostRuntime, words: &[&str], out: &mut O, notes: &mut N) -> Ended {
-    let Ok(mut folder) = read_texts(rt.alloc(), rt, words) else {
+    let names = names_of_texts(words);
+    let Ok(mut folder) = ReadFolder::read(rt.alloc(), rt, names, INPUTS_LIMIT) else {
         return without_memory(notes);
     };
     let status = falkirk_choose(rt.alloc(), words, &mut folder, out, notes);
@@ -79,10 +79,25 @@ fn answer_lines<O: Sink, N: Sink>(
     out: &mut O,
     notes: &mut N,
 ) -> Ended {
-    let status = live(rt, words, out, notes);
+    let alloc = rt.alloc();
+    let name = name_of_flow(words);
+    let Ok(mut folder) = ReadFolder::read(alloc, rt, name, INPUTS_LIMIT) else {
+        return without_memory(notes);
+    };
+    let store = FaultlessStore::new(alloc);
+    let mut lines = StreamLines::new(rt.stdin().lock());
+    let status = falkirk_live(alloc, words, &mut folder, store, &mut lines, out, notes);
     Ended {
         number: status.number(),
         refusal: status.refusal(),
+    }
+}
+
+// The name of the text that is read: that of the flow, where the words are a session's command.
+fn name_of_flow<'a>(words: &'a [&'a str]) -> &'a [&'a str] {
+    match words {
+        [_, _] | [_, _, "auto"] => words.get(1..2).unwrap_or(&[]),
+        _ => &[],
     }
 }
 

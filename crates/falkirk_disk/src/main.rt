@@ -9,10 +9,11 @@ ghost use Rattle.std.specs.FinMap as map;
 ghost use Rattle.std.specs.Option.{ForSome};
 
 use fw_advice::{AckSink, Call, Ended, Program, tell_after, warn_before};
-use fw_choosing::{falkirk_choose, is_choosing};
+use fw_choosing::{falkirk_choose, is_choosing, names_of_texts};
 use fw_command::{JobFault, fetch_flow};
 use fw_disk::{DiskCause, DiskStore};
 use fw_flow::Flow;
+use fw_flow_text::FLOW_LIMIT;
 use fw_lines::INPUTS_LIMIT;
 use fw_outside::{Sink, Store};
 use fw_run::{Status, falkirk};
@@ -96,7 +97,8 @@ fn run_choice<N: Sink>(rt: &HostRuntime, words: &[&str], notes: &mut N) -> u8 {
         words,
         is_person: rt.stderr().is_terminal(),
     };
-    let Ok(mut folder) = read_texts(rt.alloc(), rt, words) else {
+    let names = names_of_texts(words);
+    let Ok(mut folder) = ReadFolder::read(alloc, rt, names, INPUTS_LIMIT) else {
         return out_of_memory(notes).number();
     };
     let mut out = AckSink::new(alloc, TellingSink::new(rt.stdout()));
@@ -201,7 +203,7 @@ fn show_by<N: Sink>(
     notes: &mut N,
 ) -> Status {
     let alloc = rt.alloc();
-    let Ok(mut folder) = ReadFolder::read(alloc, rt, &[name], INPUTS_LIMIT) else {
+    let Ok(mut folder) = ReadFolder::read(alloc, rt, &[name], FLOW_LIMIT) else {
         return out_of_memory(notes);
     };
     match fetch_flow(alloc, &mut folder, name) {

@@ -1,19 +1,14 @@
 -- What a line came to, and its answer.
-use Rattle.std.proofs.Common.{◌≡◌, ℕ, ◌+◌, ◌-◌, Bool, List, [], ◌∷◌, ◌++◌, length, Option, Some, None, Result, Ok, Err, refl, sym, ap, subst, ◌∙◌, arith}
-use Rattle.std.proofs.Math.Path.{fun_ext}
+use Rattle.std.proofs.Common.{◌≡◌, ℕ, ◌+◌, ◌-◌, Bool, true, false, List, [], ◌∷◌, ◌++◌, length, Option, Some, None, Result, Ok, Err, refl, sym, ap, subst, ◌∙◌, arith}
 use Rattle.std.proofs.lemmas.Bool.{false≢true}
 use Rattle.std.proofs.lemmas.List.{append_assoc}
-use Rattle.std.specs.Prelude.{IfOk, OnOk, IsErr, IsErrOf}
+use Rattle.std.specs.Prelude.{IfOk, IsErrOf}
 use Rattle.fw_flow.specs.Dataflow.{Dataflow}
 use Rattle.fw_keep.specs.Stored.{Records}
 use Rattle.fw_model.specs.Steps.{Outcome, did, idle}
 use Rattle.fw_running.specs.declared.fault.EngineFault.{EngineFault}
 use Rattle.fw_running.specs.declared.fault.EngineFault.TheVariants as fault
-use Rattle.fw_engine.specs.declared.engine.Engine.{Engine}
-use Rattle.fw_engine.specs.Engine.{flow_of}
 use Rattle.fw_run.specs.Printed.{outcomes_text, idle_count}
-use Rattle.fw_session.specs.declared.arrivals.Arrivals.{Arrivals}
-use Rattle.fw_session.specs.Session.{IsAt, is_open_in, came_in}
 use Rattle.fw_session.specs.Story.{Story}
 use Rattle.fw_live.specs.declared.rule.LineRule.{LineRule}
 use Rattle.fw_live.specs.declared.counts.LineCounts.{LineCounts}
@@ -22,7 +17,8 @@ use Rattle.fw_live.specs.Answered.{HasAnswered, HasTurned}
 use Rattle.fw_live.specs.Answers.{refused, turned, change_text, ending_text, refused_line, saturated, done_count, counts_ended, counts_stepped, counts_turned, with_line, after_change, rest_item, IsAnswerTo}
 use Rattle.fw_live.specs.Asked.{Asked, allowed, change_fault, unless_fault}
 use Rattle.fw_live.specs.Relies.{GoesOnPrinting, EndsSo, turn_counts, step_counted, IsAskedReliedOn, IsMaybeReliedOn}
-use Rattle.fw_live.specs.Taken.{Ending, all, failed, spoiled, EndsBoth, came_in_story}
+use Rattle.fw_live.specs.Taken.{Ending, all, failed, spoiled, EndsBoth}
+use Rattle.fw_living.specs.Life.{came_in_story}
 
 -- ---- counts
 
@@ -89,58 +85,57 @@ turned-so rests flow story asked ending counts between after start turn old told
       at = goes.at;
     }
 
-pub has-turned : {E : Type 0} (rests : Bool) (flow : Dataflow) (story : Story) (asked : Asked) (taken : Result (Unit {0}) EngineFault)
-    (r : Result (Unit {0}) E) (counts between after : LineCounts) (start turn : TurnCounts) (old told printed new : List ℕ) (At : Story → Type 0)
+pub has-turned : (rests : Bool) (flow : Dataflow) (story : Story) (asked : Asked) (taken : Result (Unit {0}) EngineFault)
+    (counts between after : LineCounts) (start turn : TurnCounts) (old told printed new : List ℕ) (At : Story → Type 0)
     → start ≡ no-turn → told ≡ old ++ change_text flow (came_in_story flow story) asked.change
     → EndsSo (λ ending. GoesOnPrinting flow (EndsBoth flow (after_change asked.change story) asked.item (rest_item rests) ending)
     (record { bytes = told; counts = start }) (record { bytes = printed; counts = turn }) At) taken
-    → between ≡ with-turn turn counts
-    → EndsSo (λ ending. IfOk r (λ _. new ≡ printed ++ ending_text ending turn.done)) taken
-    → EndsSo (λ ending. IfOk r (λ _. after ≡ counts_ended ending between)) taken
-    → (IsErrOf taken fault.NoMemory → IsErr r)
-    → IfOk r (λ _. HasTurned rests flow story asked counts after old new At)
-has-turned rests flow story asked taken (Err e) counts between after start turn old told printed new At s t goes b n a m = tt
-has-turned rests flow story asked (Ok x) (Ok y) counts between after start turn old told printed new At s t goes b n a m =
+    → between ≡ with-turn turn counts → EndsSo (λ ending. new ≡ printed ++ ending_text ending turn.done) taken
+    → EndsSo (λ ending. after ≡ counts_ended ending between) taken → (IsErrOf taken fault.NoMemory → false ≡ true)
+    → HasTurned rests flow story asked counts after old new At
+has-turned rests flow story asked (Ok x) counts between after start turn old told printed new At s t goes b n a m =
     turned-so rests flow story asked all counts between after start turn old told printed new At s t goes b n a
-has-turned rests flow story asked (Err fault.StoreFault) (Ok y) counts between after start turn old told printed new At s t goes b n a m =
+has-turned rests flow story asked (Err fault.StoreFault) counts between after start turn old told printed new At s t goes b n a m =
     turned-so rests flow story asked failed counts between after start turn old told printed new At s t goes b n a
-has-turned rests flow story asked (Err (fault.Damaged id)) (Ok y) counts between after start turn old told printed new At s t goes b n a m =
+has-turned rests flow story asked (Err (fault.Damaged id)) counts between after start turn old told printed new At s t goes b n a m =
     turned-so rests flow story asked (spoiled id) counts between after start turn old told printed new At s t goes b n a
-has-turned rests flow story asked (Err fault.NoMemory) (Ok y) counts between after start turn old told printed new At s t goes b n a m =
+has-turned rests flow story asked (Err fault.NoMemory) counts between after start turn old told printed new At s t goes b n a m =
     absurd (false≢true (m refl))
+
+-- and what is true of the next story is more
+pub turned-at : (rests : Bool) (flow : Dataflow) (story : Story) (asked : Asked) (before after : LineCounts) (old new : List ℕ)
+    (At After : Story → Type 0) → HasTurned rests flow story asked before after old new At → ((s : Story) → At s → After s)
+    → HasTurned rests flow story asked before after old new After
+turned-at rests flow story asked before after old new At After has more = record {
+  turn = has.turn;
+  next = has.next;
+  turns = has.turns;
+  written = has.written;
+  counted = has.counted;
+  at = more has.next has.at;
+}
 
 -- ---- an answer
 
--- what is open and what came, by the session and by the story
-same-allowed : (engine : Engine) (records : Option Records) (arrivals : Arrivals) (story : Story) (h : Result Asked LineRule)
-    → IsAt engine records arrivals story
-    → allowed (is_open_in arrivals) (came_in arrivals) h ≡ allowed story.now.opened (came_in_story (flow_of engine) story) h
-same-allowed engine records arrivals story h at =
-    ap (λ opened. allowed opened (came_in arrivals) h) (fun_ext at.opens) ∙ ap (λ came. allowed story.now.opened came h) (fun_ext at.counts)
-
-pub answer-refused : (rests : Bool) (engine : Engine) (records : Option Records) (arrivals : Arrivals) (story : Story) (h : Result Asked LineRule)
-    (rule : LineRule) (before after : LineCounts) (old new : List ℕ) → IsAt engine records arrivals story
-    → Err rule ≡ allowed (is_open_in arrivals) (came_in arrivals) h → after ≡ with_line before → new ≡ old ++ refused_line rule after.lines
-    → HasAnswered rests (flow_of engine) story h before after old new (IsAt engine records arrivals)
-answer-refused rests engine records arrivals story h rule before after old new at e counted written = record {
+pub answer-refused : (rests : Bool) (flow : Dataflow) (story : Story) (h : Result Asked LineRule) (rule : LineRule) (before after : LineCounts)
+    (old new : List ℕ) (At : Story → Type 0) → At story → Err rule ≡ allowed story.now.opened (came_in_story flow story) h
+    → after ≡ with_line before → new ≡ old ++ refused_line rule after.lines → HasAnswered rests flow story h before after old new At
+answer-refused rests flow story h rule before after old new At at e counted written = record {
   answer = refused rule;
   next = story;
-  answers = subst (λ a. IsAnswerTo rests (flow_of engine) story a (refused rule) story) (e ∙ same-allowed engine records arrivals story h at) (refl, refl);
+  answers = subst (λ a. IsAnswerTo rests flow story a (refused rule) story) e (refl, refl);
   written = written ∙ ap (λ (c : LineCounts). old ++ refused_line rule c.lines) counted;
   counted = counted;
   at = at;
 }
 
-pub answer-turned : (rests : Bool) (engine : Engine) (records : Option Records) (arrivals : Arrivals) (story : Story) (h : Result Asked LineRule)
-    (asked : Asked) (before between after : LineCounts) (old new : List ℕ) (After : Story → Type 0) → IsAt engine records arrivals story
-    → Ok asked ≡ allowed (is_open_in arrivals) (came_in arrivals) h → between ≡ with_line before
-    → HasTurned rests (flow_of engine) story asked between after old new After
-    → HasAnswered rests (flow_of engine) story h before after old new After
-answer-turned rests engine records arrivals story h asked before between after old new After at e counted has = record {
+pub answer-turned : (rests : Bool) (flow : Dataflow) (story : Story) (h : Result Asked LineRule) (asked : Asked) (before between after : LineCounts)
+    (old new : List ℕ) (After : Story → Type 0) → Ok asked ≡ allowed story.now.opened (came_in_story flow story) h → between ≡ with_line before
+    → HasTurned rests flow story asked between after old new After → HasAnswered rests flow story h before after old new After
+answer-turned rests flow story h asked before between after old new After e counted has = record {
   answer = turned has.turn;
   next = has.next;
-  answers = subst (λ a. IsAnswerTo rests (flow_of engine) story a (turned has.turn) has.next) (e ∙ same-allowed engine records arrivals story h at)
-      (has.turn, refl, has.turns);
+  answers = subst (λ a. IsAnswerTo rests flow story a (turned has.turn) has.next) e (has.turn, refl, has.turns);
   written = has.written;
   counted = has.counted ∙ ap (counts_turned has.turn) counted;
   at = has.at;
@@ -158,10 +153,6 @@ allowed-relied opened came (Ok a) asked records e r =
 allowed-relied opened came (Err rule) asked records e r = absurd cc
 
 -- ---- where memory was not refused
-
-pub ok-if : {E : Type 0} (r : Result (Unit {0}) E) (P Q : Type 0) → OnOk r P → (P → Q) → IfOk r (λ _. Q)
-ok-if (Ok x) P Q p f = f p
-ok-if (Err e) P Q p f = tt
 
 pub if-if : {E : Type 0} (r : Result (Unit {0}) E) (P Q : Type 0) → IfOk r (λ _. P) → (P → Q) → IfOk r (λ _. Q)
 if-if (Ok x) P Q p f = f p

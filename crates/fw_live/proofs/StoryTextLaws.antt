@@ -24,9 +24,9 @@ comes sys state (step ∷ steps) [] last r = absurd r
 comes sys state (step ∷ steps) (outcome ∷ outcomes) last r =
     (step ∷ [], r.0, steps, (outcome, r.1, refl), comes sys r.0 steps outcomes last r.2, refl)
 
-lines : (flow : Dataflow) (effects : List Effect) → flat_map (effect_text flow) effects ≡ outcomes_text flow (map did effects)
-lines flow [] = refl
-lines flow (effect ∷ effects) = ap (λ text. effect_text flow effect ++ text) (lines flow effects)
+pub text-of-effects : (flow : Dataflow) (effects : List Effect) → flat_map (effect_text flow) effects ≡ outcomes_text flow (map did effects)
+text-of-effects flow [] = refl
+text-of-effects flow (effect ∷ effects) = ap (λ text. effect_text flow effect ++ text) (text-of-effects flow effects)
 
 none-idle : (effects : List Effect) → 0 ≡ idle_count (map did effects)
 none-idle [] = refl
@@ -42,7 +42,7 @@ stories_print flow story k end on =
       comes = comes (with_batches flow end) _ (steps_among story.actions) (map did effects) story.now.state run;
       outcomes = map did effects;
       run = run;
-      text = ap (λ text. text ++ done_line (length effects) 0) (lines flow effects)
+      text = ap (λ text. text ++ done_line (length effects) 0) (text-of-effects flow effects)
           ∙ ap (λ n. outcomes_text flow (map did effects) ++ done_line n 0) (sym (length-map effects did))
           ∙ ap (λ n. outcomes_text flow (map did effects) ++ done_line (length (map did effects)) n) (none-idle effects);
     }

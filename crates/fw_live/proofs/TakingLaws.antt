@@ -1,6 +1,5 @@
 -- How steps are taken and printed.
 use Rattle.std.proofs.Common.{◌≡◌, ℕ, true, false, ◌+◌, ◌<◌, List, [], ◌∷◌, ◌++◌, length, map, Option, Some, None, Result, Ok, Err, refl, sym, ap, subst, ◌∙◌, inl, inr, arith}
-use Rattle.std.proofs.Math.Path.{fun_ext}
 use Rattle.std.proofs.lemmas.List.{append-nil, append_assoc, length-append}
 use Rattle.std.proofs.lemmas.Bool.{false≢true}
 use Rattle.std.specs.Prelude.{IsSome}
@@ -10,28 +9,25 @@ use Rattle.fw_flow.specs.Dataflow.{System, Dataflow}
 use Rattle.fw_schedule.specs.declared.item.Item.{Item}
 use Rattle.fw_schedule.specs.declared.item.Item.TheVariants.{One, Auto}
 use Rattle.fw_keep.specs.Stored.{Records}
-use Rattle.fw_model.specs.Auto.{AreIdle, IsFirstEnabled}
+use Rattle.fw_model.specs.Auto.{IsFirstEnabled}
 use Rattle.fw_model.specs.Machine.{Machine}
 use Rattle.fw_model.specs.Steps.{Effect, Outcome, did, idle}
 use Rattle.fw_running.specs.declared.fault.EngineFault.{EngineFault}
 use Rattle.fw_running.specs.declared.fault.EngineFault.TheVariants as fault
 use Rattle.fw_running.specs.declared.stepped.Stepped.{Stepped}
 use Rattle.fw_running.specs.EffectText.{outcome_text}
-use Rattle.fw_running.specs.Fed.{auto_steps_within}
 use Rattle.fw_running.specs.Steps.{Trusts, outcome_of}
-use Rattle.fw_engine.specs.declared.engine.Engine.{Engine}
-use Rattle.fw_engine.specs.Engine.{flow_of}
 use Rattle.fw_run.specs.Printed.{outcomes_text, is_idle}
-use Rattle.fw_session.specs.declared.arrivals.Arrivals.{Arrivals}
-use Rattle.fw_session.specs.Session.{IsAt, IsLeftAt, GoesOnFirst, StepGoesOn, FirstGoesOn, came_in}
+use Rattle.fw_session.specs.Session.{IsLeftAt, StepGoesOn}
 use Rattle.fw_session.specs.Story.{Story, IsStory, system_now, after_step}
+use Rattle.fw_living.specs.Life.{auto_steps_now, AutoGoesOn, GoesOnByAuto}
 use Rattle.fw_live.specs.declared.counts.TurnCounts.{TurnCounts}
 use Rattle.fw_live.specs.Relies.{IsReliedOn, IsItemReliedOn, IsMaybeReliedOn, Printed, GoesOnPrinting, EndsSo, turn_counts, step_counted}
-use Rattle.fw_live.specs.Taken.{Ending, all, failed, spoiled, EndsItem, EndsMaybe, EndsBoth, IsLeftInStory, TakesFirsts, auto_steps_now}
+use Rattle.fw_live.specs.Taken.{Ending, all, failed, spoiled, EndsItem, EndsMaybe, EndsBoth, IsLeftInStory, TakesFirsts}
 
 -- ---- what is printed and counted
 
-outcomes-append : (flow : Dataflow) (xs ys : List Outcome) → outcomes_text flow (xs ++ ys) ≡ outcomes_text flow xs ++ outcomes_text flow ys
+pub outcomes-append : (flow : Dataflow) (xs ys : List Outcome) → outcomes_text flow (xs ++ ys) ≡ outcomes_text flow xs ++ outcomes_text flow ys
 outcomes-append flow [] ys = refl
 outcomes-append flow (x ∷ xs) ys = ap (λ text. outcome_text flow x ++ text) (outcomes-append flow xs ys)
     ∙ sym (append_assoc (outcome_text flow x) (outcomes_text flow xs) (outcomes_text flow ys))
@@ -127,59 +123,46 @@ map-more : (effects : List Effect) (effect : Effect) → map did effects ++ did 
 map-more [] effect = refl
 map-more (x ∷ effects) effect = ap (λ xs. did x ∷ xs) (map-more effects effect)
 
--- what came, by the session and by the story
-same-steps : (engine : Engine) (records : Option Records) (arrivals : Arrivals) (story : Story) → IsAt engine records arrivals story
-    → auto_steps_within (flow_of engine) (came_in arrivals) story.now.state ≡ auto_steps_now (flow_of engine) story
-same-steps engine records arrivals story at = ap (λ came. auto_steps_within (flow_of engine) came story.now.state) (fun_ext at.counts)
-
-steps-now : (flow : Dataflow) (engine : Engine) (records : Option Records) (arrivals : Arrivals) (story : Story) → flow_of engine ≡ flow
-    → IsAt engine records arrivals story → auto_steps_within flow (came_in arrivals) story.now.state ≡ auto_steps_now flow story
-steps-now flow engine records arrivals story same at =
-    subst (λ f. auto_steps_within f (came_in arrivals) story.now.state ≡ auto_steps_now f story) same (same-steps engine records arrivals story at)
-
 pub auto-begun : (flow : Dataflow) (story : Story) (printed : Printed) (At : Story → Type 0) → At story
     → GoesOnPrinting flow (HasTaken flow story 0) printed printed At
 auto-begun flow story printed At at =
     prints-none flow (HasTaken flow story 0) printed At story (record { effects = []; are = refl; firsts = refl; many = refl }) at
 
 -- one step more was taken by itself
-pub auto-more : (flow : Dataflow) (story : Story) (n : ℕ) (engine : Engine) (records : Option Records) (arrivals : Arrivals) (o : Outcome)
-    (After : Story → Type 0) (before between after : Printed) → flow_of engine ≡ flow
-    → GoesOnPrinting flow (HasTaken flow story n) before between (IsAt engine records arrivals)
-    → ((s : Story) → IsAt engine records arrivals s → GoesOnFirst (flow_of engine) arrivals o s After) → is_idle o ≡ false
+pub auto-more : (flow same : Dataflow) (story : Story) (n : ℕ) (o : Outcome) (Before After : Story → Type 0) (before between after : Printed)
+    → same ≡ flow → GoesOnPrinting flow (HasTaken flow story n) before between Before
+    → ((s : Story) → Before s → GoesOnByAuto same o s After) → is_idle o ≡ false
     → after.bytes ≡ between.bytes ++ outcome_text flow o → after.counts ≡ step_counted o between.counts
     → GoesOnPrinting flow (HasTaken flow story (n + 1)) before after After
-auto-more flow story n engine records arrivals idle After before between after same so first stays text count = absurd (false≢true (sym stays))
-auto-more flow story n engine records arrivals (did e) After before between after same so first stays text count =
-    let f = subst (λ d. GoesOnFirst d arrivals (did e) so.next After) same (first so.next so.at) in
-    let ot = outcome_text flow (did e) in
+auto-more flow same story n idle Before After before between after e so first stays text count = absurd (false≢true (sym stays))
+auto-more flow same story n (did x) Before After before between after e so first stays text count =
+    let f = subst (λ d. GoesOnByAuto d (did x) so.next After) e (first so.next so.at) in
+    let ot = outcome_text flow (did x) in
     let lines = outcomes_text flow so.outcomes in
     let done = so.goes_on in
     record {
-      outcomes = so.outcomes ++ did e ∷ [];
-      next = after_step f.0 e f.1 so.next;
+      outcomes = so.outcomes ++ did x ∷ [];
+      next = after_step f.0 x f.1 so.next;
       goes_on = record {
-        effects = done.effects ++ e ∷ [];
-        are = ap (λ xs. xs ++ did e ∷ []) done.are ∙ map-more done.effects e;
-        firsts = firsts-more flow story done.effects so.next done.firsts f.0 f.1 e
-            (subst (λ steps. IsFirstEnabled (system_now flow so.next) so.next.now.state steps f.0 f.1 e) (steps-now flow engine records arrivals so.next same so.at) f.3);
-        many = omega (arith, length-append done.effects (e ∷ []), done.many);
+        effects = done.effects ++ x ∷ [];
+        are = ap (λ xs. xs ++ did x ∷ []) done.are ∙ map-more done.effects x;
+        firsts = firsts-more flow story done.effects so.next done.firsts f.0 f.1 x f.3;
+        many = omega (arith, length-append done.effects (x ∷ []), done.many);
       };
       printed = text ∙ ap (λ bytes. bytes ++ ot) so.printed ∙ append_assoc before.bytes lines ot
-          ∙ ap (λ more. before.bytes ++ more) (ap (λ more. lines ++ more) (sym (append-nil ot)) ∙ sym (outcomes-append flow so.outcomes (did e ∷ [])));
-      counted = count ∙ ap (step_counted (did e)) so.counted ∙ sym (counts-append so.outcomes (did e ∷ []) before.counts);
+          ∙ ap (λ more. before.bytes ++ more) (ap (λ more. lines ++ more) (sym (append-nil ot)) ∙ sym (outcomes-append flow so.outcomes (did x ∷ [])));
+      counted = count ∙ ap (step_counted (did x)) so.counted ∙ sym (counts-append so.outcomes (did x ∷ []) before.counts);
       at = f.2;
     }
 
 -- none was enabled any more
-pub auto-ends : (flow : Dataflow) (story : Story) (n most : ℕ) (engine : Engine) (records : Option Records) (arrivals : Arrivals) (o : Outcome)
-    (After : Story → Type 0) (before between : Printed) → flow_of engine ≡ flow
-    → GoesOnPrinting flow (HasTaken flow story n) before between (IsAt engine records arrivals)
-    → ((s : Story) → IsAt engine records arrivals s → GoesOnFirst (flow_of engine) arrivals o s After) → is_idle o ≡ true → n < most
+pub auto-ends : (flow same : Dataflow) (story : Story) (n most : ℕ) (o : Outcome) (Before After : Story → Type 0) (before between : Printed)
+    → same ≡ flow → GoesOnPrinting flow (HasTaken flow story n) before between Before
+    → ((s : Story) → Before s → GoesOnByAuto same o s After) → is_idle o ≡ true → n < most
     → GoesOnPrinting flow (EndsItem flow story (Auto most) all) before between After
-auto-ends flow story n most engine records arrivals (did e) After before between same so first stops few = absurd (false≢true stops)
-auto-ends flow story n most engine records arrivals idle After before between same so first stops few =
-    let f = subst (λ d. GoesOnFirst d arrivals idle so.next After) same (first so.next so.at) in
+auto-ends flow same story n most (did x) Before After before between e so first stops few = absurd (false≢true stops)
+auto-ends flow same story n most idle Before After before between e so first stops few =
+    let f = subst (λ d. GoesOnByAuto d idle so.next After) e (first so.next so.at) in
     let done = so.goes_on in
     record {
       outcomes = so.outcomes;
@@ -189,7 +172,7 @@ auto-ends flow story n most engine records arrivals idle After before between sa
         are = done.are;
         firsts = done.firsts;
         few = omega (arith, done.many, few);
-        rest = λ less. subst (AreIdle (system_now flow so.next) so.next.now.state) (steps-now flow engine records arrivals so.next same so.at) f.1;
+        rest = λ less. f.1;
       };
       printed = so.printed;
       counted = so.counted;
@@ -218,10 +201,10 @@ auto-full flow story n most At before between so full =
     }
 
 -- the store failed in one
-pub auto-fails : (flow same : Dataflow) (story : Story) (n most : ℕ) (arrivals : Arrivals) (f : EngineFault) (Before After : Story → Type 0)
-    (before between : Printed) → GoesOnPrinting flow (HasTaken flow story n) before between Before → FirstGoesOn same arrivals (Err f) Before After
+pub auto-fails : (flow same : Dataflow) (story : Story) (n most : ℕ) (f : EngineFault) (Before After : Story → Type 0)
+    (before between : Printed) → GoesOnPrinting flow (HasTaken flow story n) before between Before → AutoGoesOn same (Err f) Before After
     → n < most → EndsSo {T = Unit {0}} (λ ending. GoesOnPrinting flow (EndsItem flow story (Auto most) ending) before between After) (Err f)
-auto-fails flow same story n most arrivals fault.StoreFault Before After before between so goes few =
+auto-fails flow same story n most fault.StoreFault Before After before between so goes few =
     let done = so.goes_on in
     record {
       outcomes = so.outcomes;
@@ -231,8 +214,8 @@ auto-fails flow same story n most arrivals fault.StoreFault Before After before 
       counted = so.counted;
       at = goes.faulted so.next so.at refl;
     }
-auto-fails flow same story n most arrivals (fault.Damaged id) Before After before between so goes few = absurd (goes.unharmed id refl)
-auto-fails flow same story n most arrivals fault.NoMemory Before After before between so goes few = tt
+auto-fails flow same story n most (fault.Damaged id) Before After before between so goes few = absurd (goes.unharmed id refl)
+auto-fails flow same story n most fault.NoMemory Before After before between so goes few = tt
 
 -- ---- the steps of a line
 

@@ -6,7 +6,7 @@ use Rattle.fw_live.specs.declared.rule.LineRule.{LineRule}
 use Rattle.fw_live.specs.declared.counts.LineCounts.{LineCounts}
 use Rattle.fw_live.specs.Answers.{Answer, Turn, answer_text, saturated, counts_after, counts_turned, turn_text, Turns, IsAnswerTo}
 use Rattle.fw_live.specs.Asked.{Asked, allowed}
-use Rattle.fw_live.specs.Taken.{came_in_story}
+use Rattle.fw_living.specs.Life.{came_in_story}
 
 -- From a story what was asked for came to this, which was written and counted; and at the next story this is true.
 pub record HasTurned (rests : Bool) (flow : Dataflow) (story : Story) (asked : Asked) (before after : LineCounts) (old new : List ℕ)

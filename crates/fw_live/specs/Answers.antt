@@ -15,7 +15,8 @@ use Rattle.fw_live.specs.declared.rule.LineRule.{LineRule}
 use Rattle.fw_live.specs.declared.rule.LineRule.TheVariants.{OfText, Length, Closed}
 use Rattle.fw_live.specs.declared.counts.LineCounts.{LineCounts}
 use Rattle.fw_live.specs.Asked.{Asked, Change, none, feeds, closes, LineIn, asked_for, allowed}
-use Rattle.fw_live.specs.Taken.{Ending, all, failed, spoiled, EndsBoth, came_in_story}
+use Rattle.fw_live.specs.Taken.{Ending, all, failed, spoiled, EndsBoth}
+use Rattle.fw_living.specs.Life.{came_in_story}
 
 -- ---- an answer
 

@@ -1,7 +1,8 @@
 -- What a source of lines gave.
-use Rattle.std.specs.Prelude.{ℕ, List, [], ◌∷◌, ◌++◌, map, take, Option, Some, None, option_map, Result, Ok, Err}
+use Rattle.std.specs.Prelude.{ℕ, Bool, true, List, [], ◌∷◌, ◌++◌, map, take, length, ◌==◌, if◌then◌else◌, Option, Some, None, option_map, Result, Ok, Err}
 use Rattle.std.specs.declared.alloc.Global.{Global}
 use Rattle.std.specs.declared.vec.Vec.{Vec}
+use Rattle.fw_heard.specs.Note.{Note}
 use Rattle.fw_outside.specs.declared.fault.OutFault.{OutFault}
 use Rattle.fw_live.specs.declared.line_source.NextLine.{NextLine}
 use Rattle.fw_live.specs.declared.line_source.NextLine.TheVariants.{Line, TooLong, End}
@@ -16,6 +17,20 @@ gives_after (Ok Line) bytes given = with_line_given (Some bytes) given
 gives_after (Ok TooLong) bytes given = with_line_given None given
 gives_after (Ok End) bytes given = given
 gives_after (Err fault) bytes given = given
+
+-- whether a source told that no line comes any more, after a call that answered so
+abbrev pub ends_after : Result NextLine OutFault → Bool → Bool
+ends_after (Ok End) ended = true
+ends_after result ended = ended
+
+-- the lines of which these are the notes, the newest first: of a note of one number a line with its bytes, of another one a line that was
+-- too long
+abbrev pub line_of : Note → Option (List ℕ)
+line_of note = if length note.0 == 1 then Some note.1 else None
+
+abbrev pub lines_heard : List Note → List (Option (List ℕ))
+lines_heard [] = []
+lines_heard (note ∷ earlier) = lines_heard earlier ++ line_of note ∷ []
 
 -- so many first lines of those in memory
 abbrev pub lines_given : List (Vec ℕ Global) → ℕ → List (Option (List ℕ))

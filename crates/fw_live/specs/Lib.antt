@@ -7,3 +7,6 @@ pub mod Relies
 pub mod Answered
 pub mod StoryText
 pub mod Given
+pub mod Serving
+pub mod Words
+pub mod Call

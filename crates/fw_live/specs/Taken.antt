@@ -7,17 +7,9 @@ use Rattle.fw_schedule.specs.declared.item.Item.TheVariants.{One, Auto}
 use Rattle.fw_model.specs.Auto.{AreIdle, IsFirstEnabled}
 use Rattle.fw_model.specs.Machine.{Machine}
 use Rattle.fw_model.specs.Steps.{Effect, Outcome, did}
-use Rattle.fw_running.specs.Fed.{auto_steps_within}
 use Rattle.fw_session.specs.Session.{GoesOnBy, IsLeftAt}
-use Rattle.fw_session.specs.Story.{Story, IsStory, system_now, came_to, after_step}
-
--- how many batches came to a node
-abbrev pub came_in_story : Dataflow → Story → ℕ → ℕ
-came_in_story flow story s = length (came_to flow story.now s)
-
--- the steps that `auto` tries, where no source injects more than came
-abbrev pub auto_steps_now : Dataflow → Story → List Step
-auto_steps_now flow story = auto_steps_within flow (came_in_story flow story) story.now.state
+use Rattle.fw_session.specs.Story.{Story, IsStory, system_now, after_step}
+use Rattle.fw_living.specs.Life.{auto_steps_now}
 
 -- From a story `auto` takes steps with these effects, each the first that is enabled where it is taken.
 abbrev pub TakesFirsts : Dataflow → Story → List Effect → Story → Type 0

@@ -1,23 +1,31 @@
-//! A session that answers lines, and what it answers as the text that a run prints.
+//! A session that answers lines, its command, and what it answers as the text that a run prints.
 #![tactic(auto)]
 
 mod asked;
+mod command;
 mod counts;
+mod fault;
 pub mod laws;
 mod line_source;
 mod live;
 mod mem_lines;
 mod rule;
+mod serving;
 mod stream_lines;
 mod taking;
 mod text;
 mod turn;
+mod words;
 
 pub use asked::LINE_LIMIT;
+pub use command::falkirk_live;
 pub use counts::LineCounts;
+pub use fault::ServeFault;
 pub use line_source::{LineSource, NextLine};
 pub use live::Live;
 pub use mem_lines::MemLines;
 pub use rule::LineRule;
+pub use serving::serve;
 pub use stream_lines::StreamLines;
 pub use text::last_line;
+pub use words::is_live;

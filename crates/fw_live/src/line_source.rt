@@ -1,7 +1,7 @@
 //! Where lines come from.
-ghost use Rattle.std.specs.Prelude.{◌≡◌, ◌^◌, ◌<◌, ℕ, List, Option};
+ghost use Rattle.std.specs.Prelude.{◌≡◌, ◌^◌, ◌<◌, ℕ, Bool, List, Option};
 ghost use Rattle.fw_outside.specs.Outside.{faults_after};
-ghost use Rattle.fw_live.specs.Given.{gives_after};
+ghost use Rattle.fw_live.specs.Given.{ends_after, gives_after};
 
 use fw_outside::OutFault;
 
@@ -21,6 +21,9 @@ pub trait LineSource {
     /// The lines that it gave, each by its bytes, or by nothing where it was too long; or nothing, where the source does not tell.
     ghost given: { Self → Option (List (Option (List ℕ))) };
 
+    /// Whether it told that no line comes any more.
+    ghost ended: { Self → Bool };
+
     /// How often it failed: once for each call that answers `Failed`; a count of 2^64 - 1 stands for that many or more.
     ghost fault_count: { Self → ℕ };
 
@@ -33,5 +36,6 @@ pub trait LineSource {
     fn next(&mut self, limit: usize, into: &mut Vec<u8>) -> Result<NextLine, OutFault>
         requires { limit < 2 ^ 32 }
         ensures given { given self.new ≡ gives_after result into.new.items (given self.old) }
+        ensures ended { ended self.new ≡ ends_after result (ended self.old) }
         ensures faults { fault_count self.new ≡ faults_after result (fault_count self.old) };
 }

@@ -1,8 +1,8 @@
 //! A session that answers lines.
-ghost use Rattle.std.specs.Prelude.{◌≡◌, Some, None, IsSome, IfOk};
-ghost use Rattle.fw_keep.specs.Stored.{IsEmptyStore};
+ghost use Rattle.std.specs.Prelude.{◌≡◌, Some, None, false, IsErrOf, IsSome, IfOk};
 ghost use Rattle.fw_flow.specs.Sources.{sources_of};
 ghost use Rattle.fw_engine.specs.Engine.{flow_of};
+ghost use Rattle.fw_keep.specs.Stored.{IsEmptyStore};
 ghost use Rattle.fw_session.specs.Session.{IsAt};
 ghost use Rattle.fw_session.specs.Story.{Story, opening};
 ghost use Rattle.fw_live.specs.Answered.{HasAnswered};
@@ -18,23 +18,24 @@ use crate::text::write_refused;
 use crate::turn::{allowed, turn};
 use fw_flow::Flow;
 use fw_lines::SourceNames;
+use fw_living::{LifeFault, Living};
 use fw_outside::Store;
 use fw_session::Session;
 use std::alloc::{AllocError, Global};
 
 /// A session that answers lines: batches, ends of sources, and steps.
 #[derive(Drop)]
-pub struct Live<K: Store + Drop> {
+pub struct Live<S: Living + Drop> {
     alloc: Global,
-    pub(crate) session: Session<K>,
+    pub(crate) session: S,
     sources: SourceNames,
     pub(crate) rests: bool,
     pub(crate) counts: LineCounts,
     // The sources are those of its flow.
-    ghost named: { sources ≡ sources_of (flow_of session.engine) },
+    ghost named: { sources ≡ sources_of (flow_of (S.engine_of session)) },
 }
 
-impl<K: Store + Drop> Live<K> {
+impl<K: Store + Drop> Live<Session<K>> {
     /// Nothing was done, and each input is a source that is open. The store holds no record. With `rests` each line that is accepted
     /// ends with steps to rest, as by `auto 4294967295`. The error is want of memory.
     pub fn open(alloc: Global, flow: Flow, store: K, rests: bool) -> Result<Self, AllocError>
@@ -44,8 +45,20 @@ impl<K: Store + Drop> Live<K> {
         ensures rests { IfOk result (λ live. live.rests ≡ rests) }
         ensures none { IfOk result (λ live. live.counts ≡ no_counts) }
     {
-        let sources = flow.source_names(alloc)?;
         let session = Session::open(alloc, flow, store)?;
+        Live::over(alloc, session, rests)
+    }
+}
+
+impl<S: Living + Drop> Live<S> {
+    /// No line was answered. With `rests` each line that is accepted ends with steps to rest, as by `auto 4294967295`. The error is want
+    /// of memory.
+    pub fn over(alloc: Global, session: S, rests: bool) -> Result<Self, AllocError>
+        ensures session { IfOk result (λ live. live.session ≡ session) }
+        ensures rests { IfOk result (λ live. live.rests ≡ rests) }
+        ensures none { IfOk result (λ live. live.counts ≡ no_counts) }
+    {
+        let sources = session.engine().flow().source_names(alloc)?;
         Ok(Live {
             alloc,
             session,
@@ -60,21 +73,22 @@ impl<K: Store + Drop> Live<K> {
     ///
     /// # Errors
     ///
-    /// Want of memory; then each further line answers it too, or is refused.
-    pub fn answer(&mut self, line: &[u8], into: &mut Vec<u8>) -> Result<(), AllocError>
-        ensures answered { (story : Story) → IsAt self.old.session.engine (K.view self.old.session.store).records self.old.session.arrivals story
-            → IsLineReliedOn (K.view self.new.session.store).records (flow_of self.old.session.engine) (Some line.now)
-            → IfOk result (λ _. HasAnswered self.old.rests (flow_of self.old.session.engine) story (asked_for (flow_of self.old.session.engine) (Some line.now))
+    /// Those of `Living::keep_line` and of `Living::feed`: then the answer may not be told, and no further line be answered.
+    pub fn answer(&mut self, line: &[u8], into: &mut Vec<u8>) -> Result<(), LifeFault>
+        ensures answered { (story : Story) → S.at self.old.session story → S.keeps self.old.session story
+            → IsLineReliedOn (S.records self.new.session) (flow_of (S.engine_of self.old.session)) (Some line.now)
+            → IfOk result (λ _. HasAnswered self.old.rests (flow_of (S.engine_of self.old.session)) story (asked_for (flow_of (S.engine_of self.old.session)) (Some line.now))
             self.old.counts self.new.counts into.old.items into.new.items
-            (IsAt self.new.session.engine (K.view self.new.session.store).records self.new.session.arrivals)) }
-        ensures flow { flow_of self.new.session.engine ≡ flow_of self.old.session.engine }
+            (λ next. S.at self.new.session next × S.keeps self.new.session next)) }
+        ensures flow { flow_of (S.engine_of self.new.session) ≡ flow_of (S.engine_of self.old.session) }
         ensures rests { self.new.rests ≡ self.old.rests }
-        ensures told_before { IsSome (K.view self.new.session.store).records → IsSome (K.view self.old.session.store).records }
+        ensures told_before { IsSome (S.records self.new.session) → IsSome (S.records self.old.session) }
+        ensures lasts { S.lasts ≡ false → IsErrOf result LifeFault.StoreFault → ⊥ }
     {
         let heard = read_line(
             self.alloc,
             first_line(line),
-            self.session.flow(),
+            self.session.engine().flow(),
             &self.sources,
         )?;
         self.answer_heard(heard, into)
@@ -85,14 +99,15 @@ impl<K: Store + Drop> Live<K> {
     /// # Errors
     ///
     /// Want of memory.
-    pub fn answer_long(&mut self, into: &mut Vec<u8>) -> Result<(), AllocError>
-        ensures answered { (story : Story) → IsAt self.old.session.engine (K.view self.old.session.store).records self.old.session.arrivals story
-            → IfOk result (λ _. HasAnswered self.old.rests (flow_of self.old.session.engine) story (asked_for (flow_of self.old.session.engine) None)
+    pub fn answer_long(&mut self, into: &mut Vec<u8>) -> Result<(), LifeFault>
+        ensures answered { (story : Story) → S.at self.old.session story → S.keeps self.old.session story
+            → IfOk result (λ _. HasAnswered self.old.rests (flow_of (S.engine_of self.old.session)) story (asked_for (flow_of (S.engine_of self.old.session)) None)
             self.old.counts self.new.counts into.old.items into.new.items
-            (IsAt self.new.session.engine (K.view self.new.session.store).records self.new.session.arrivals)) }
-        ensures flow { flow_of self.new.session.engine ≡ flow_of self.old.session.engine }
+            (λ next. S.at self.new.session next × S.keeps self.new.session next)) }
+        ensures flow { flow_of (S.engine_of self.new.session) ≡ flow_of (S.engine_of self.old.session) }
         ensures rests { self.new.rests ≡ self.old.rests }
-        ensures told_before { IsSome (K.view self.new.session.store).records → IsSome (K.view self.old.session.store).records }
+        ensures told_before { IsSome (S.records self.new.session) → IsSome (S.records self.old.session) }
+        ensures lasts { S.lasts ≡ false → IsErrOf result LifeFault.StoreFault → ⊥ }
     {
         self.answer_heard(Err(LineRule::Length), into)
     }
@@ -102,19 +117,23 @@ impl<K: Store + Drop> Live<K> {
         &mut self,
         heard: Result<Asked, LineRule>,
         into: &mut Vec<u8>,
-    ) -> Result<(), AllocError>
-        ensures answered { (story : Story) → IsAt self.old.session.engine (K.view self.old.session.store).records self.old.session.arrivals story
-            → IsAskedReliedOn (K.view self.new.session.store).records (heard_in heard)
-            → IfOk result (λ _. HasAnswered self.old.rests (flow_of self.old.session.engine) story (heard_in heard)
+    ) -> Result<(), LifeFault>
+        ensures answered { (story : Story) → S.at self.old.session story → S.keeps self.old.session story
+            → IsAskedReliedOn (S.records self.new.session) (heard_in heard)
+            → IfOk result (λ _. HasAnswered self.old.rests (flow_of (S.engine_of self.old.session)) story (heard_in heard)
             self.old.counts self.new.counts into.old.items into.new.items
-            (IsAt self.new.session.engine (K.view self.new.session.store).records self.new.session.arrivals)) }
-        ensures flow { flow_of self.new.session.engine ≡ flow_of self.old.session.engine }
+            (λ next. S.at self.new.session next × S.keeps self.new.session next)) }
+        ensures flow { flow_of (S.engine_of self.new.session) ≡ flow_of (S.engine_of self.old.session) }
         ensures rests { self.new.rests ≡ self.old.rests }
-        ensures told_before { IsSome (K.view self.new.session.store).records → IsSome (K.view self.old.session.store).records }
+        ensures told_before { IsSome (S.records self.new.session) → IsSome (S.records self.old.session) }
+        ensures lasts { S.lasts ≡ false → IsErrOf result LifeFault.StoreFault → ⊥ }
     {
         self.counts.count_line();
         match allowed(&self.session, heard) {
-            Err(rule) => write_refused(self.alloc, rule, self.counts.lines, into),
+            Err(rule) => {
+                write_refused(self.alloc, rule, self.counts.lines, into)?;
+                Ok(())
+            }
             Ok(asked) => turn(
                 self.alloc,
                 &mut self.session,
@@ -127,7 +146,7 @@ impl<K: Store + Drop> Live<K> {
     }
 
     /// The session, to be looked at.
-    pub fn session(&self) -> &Session<K>
+    pub fn session(&self) -> &S
         ensures { result.now ≡ self.now.session }
     {
         &self.session

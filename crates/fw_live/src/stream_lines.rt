@@ -1,30 +1,41 @@
 //! Lines of a real stream.
-ghost use Rattle.std.specs.Prelude.{◌≡◌, None};
+ghost use Rattle.std.specs.Prelude.{◌≡◌, Some, []};
+ghost use Rattle.fw_live.specs.Given.{lines_heard};
 ghost use Rattle.fw_outside.specs.Outside as spec;
 
 use crate::line_source::{LineSource, NextLine};
+use fw_heard::Heard;
 use fw_outside::OutFault;
 use std::io;
 use std::io::{BufRead, Read};
 
-/// The lines of a stream, as standard input. It does not tell which it gave.
+/// The lines of a stream, as standard input. It tells those that it handed over; that they are the stream's is the system's to keep.
 #[derive(Drop)]
 pub struct StreamLines<R: BufRead> {
     stream: R,
+    ended: bool,
     faults: u64,
+    heard: Heard,
 }
 
 impl<R: BufRead> StreamLines<R> {
     /// The lines of this stream.
     pub fn new(stream: R) -> Self
-        ensures { ⟦<StreamLines<R> as LineSource>⟧.given result ≡ None }
+        ensures { ⟦<StreamLines<R> as LineSource>⟧.given result ≡ Some [] }
     {
-        StreamLines { stream, faults: 0 }
+        StreamLines {
+            stream,
+            ended: false,
+            faults: 0,
+            heard: Heard::new(),
+        }
     }
 }
 
 impl<R: BufRead> LineSource for StreamLines<R> {
-    ghost given = { λ _. None };
+    ghost given = { λ lines. Some (lines_heard lines.heard.notes) };
+
+    ghost ended = { λ lines. lines.ended };
 
     ghost fault_count = { λ lines. lines.faults };
 
@@ -32,7 +43,18 @@ impl<R: BufRead> LineSource for StreamLines<R> {
     fn next(&mut self, limit: usize, into: &mut Vec<u8>) -> Result<NextLine, OutFault> {
         into.clear();
         match read_line(&mut self.stream, limit, into) {
-            Ok(next) => Ok(next),
+            Ok(NextLine::Line) => {
+                self.heard.note(&[0], into);
+                Ok(NextLine::Line)
+            }
+            Ok(NextLine::TooLong) => {
+                self.heard.note(&[], &[]);
+                Ok(NextLine::TooLong)
+            }
+            Ok(NextLine::End) => {
+                self.ended = true;
+                Ok(NextLine::End)
+            }
             Err(_) => {
                 self.faults = one_more(self.faults);
                 Err(OutFault::Failed)

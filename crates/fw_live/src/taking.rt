@@ -4,7 +4,6 @@ ghost use Rattle.fw_engine.specs.Engine.{flow_of};
 ghost use Rattle.fw_run.specs.Printed as spec;
 ghost use Rattle.fw_running.specs.Steps.{outcome_of};
 ghost use Rattle.fw_session.specs.Story.{Story};
-ghost use Rattle.fw_session.specs.Session.{IsAt};
 ghost use Rattle.fw_live.specs.Relies.{IsItemReliedOn, IsMaybeReliedOn, IsReliedOn, GoesOnPrinting, EndsSo};
 ghost use Rattle.fw_live.specs.Answers.{rest_item};
 ghost use Rattle.fw_live.specs.Reading.{first_item};
@@ -14,47 +13,46 @@ use crate::counts::TurnCounts;
 use crate::text::write_outcome;
 use fw_engine::{EngineFault, Stepped};
 use fw_flow::Step;
-use fw_outside::Store;
+use fw_living::Living;
 use fw_schedule::{Item, STEP_LIMIT};
-use fw_session::Session;
 use std::alloc::Global;
 
 /// Takes the steps of the first of these items, if there is one, and those to rest behind it, where lines are to end so. It prints their
 /// lines and counts them, up to the first that the store ends.
-pub(crate) fn take_turn<K: Store + Drop>(
+pub(crate) fn take_turn<S: Living>(
     alloc: Global,
-    session: &mut Session<K>,
+    session: &mut S,
     items: &[Item],
     rests: bool,
     counts: &mut TurnCounts,
     into: &mut Vec<u8>,
 ) -> Result<(), EngineFault>
-    ensures flow { flow_of session.new.engine ≡ flow_of session.old.engine }
-    ensures told_before { IsSome (K.view session.new.store).records → IsSome (K.view session.old.store).records }
-    ensures ends { (story : Story) → IsAt session.old.engine (K.view session.old.store).records session.old.arrivals story
-        → IsMaybeReliedOn (K.view session.new.store).records (first_item items.now)
-        → EndsSo (λ ending. GoesOnPrinting (flow_of session.old.engine) (EndsBoth (flow_of session.old.engine) story (first_item items.now) (rest_item rests) ending)
+    ensures flow { flow_of (S.engine_of session.new) ≡ flow_of (S.engine_of session.old) }
+    ensures told_before { IsSome (S.records session.new) → IsSome (S.records session.old) }
+    ensures ends { (story : Story) → S.at session.old story
+        → IsMaybeReliedOn (S.records session.new) (first_item items.now)
+        → EndsSo (λ ending. GoesOnPrinting (flow_of (S.engine_of session.old)) (EndsBoth (flow_of (S.engine_of session.old)) story (first_item items.now) (rest_item rests) ending)
         (record { bytes = into.old.items; counts = counts.old }) (record { bytes = into.new.items; counts = counts.new })
-        (IsAt session.new.engine (K.view session.new.store).records session.new.arrivals)) result }
+        (S.at session.new)) result }
 {
     take_first(alloc, session, items, counts, into)?;
     take_rest(alloc, session, rests, counts, into)
 }
 
 // Takes the steps to rest, where lines are to end so.
-fn take_rest<K: Store + Drop>(
+fn take_rest<S: Living>(
     alloc: Global,
-    session: &mut Session<K>,
+    session: &mut S,
     rests: bool,
     counts: &mut TurnCounts,
     into: &mut Vec<u8>,
 ) -> Result<(), EngineFault>
-    ensures flow { flow_of session.new.engine ≡ flow_of session.old.engine }
-    ensures told_before { IsSome (K.view session.new.store).records → IsSome (K.view session.old.store).records }
-    ensures ends { (story : Story) → IsAt session.old.engine (K.view session.old.store).records session.old.arrivals story
-        → EndsSo (λ ending. GoesOnPrinting (flow_of session.old.engine) (EndsMaybe (flow_of session.old.engine) story (rest_item rests) ending)
+    ensures flow { flow_of (S.engine_of session.new) ≡ flow_of (S.engine_of session.old) }
+    ensures told_before { IsSome (S.records session.new) → IsSome (S.records session.old) }
+    ensures ends { (story : Story) → S.at session.old story
+        → EndsSo (λ ending. GoesOnPrinting (flow_of (S.engine_of session.old)) (EndsMaybe (flow_of (S.engine_of session.old)) story (rest_item rests) ending)
         (record { bytes = into.old.items; counts = counts.old }) (record { bytes = into.new.items; counts = counts.new })
-        (IsAt session.new.engine (K.view session.new.store).records session.new.arrivals)) result }
+        (S.at session.new)) result }
 {
     match rests {
         true => take_auto(alloc, session, STEP_LIMIT, counts, into),
@@ -63,20 +61,20 @@ fn take_rest<K: Store + Drop>(
 }
 
 // Takes the steps of the first of these items, if there is one.
-fn take_first<K: Store + Drop>(
+fn take_first<S: Living>(
     alloc: Global,
-    session: &mut Session<K>,
+    session: &mut S,
     items: &[Item],
     counts: &mut TurnCounts,
     into: &mut Vec<u8>,
 ) -> Result<(), EngineFault>
-    ensures flow { flow_of session.new.engine ≡ flow_of session.old.engine }
-    ensures told_before { IsSome (K.view session.new.store).records → IsSome (K.view session.old.store).records }
-    ensures ends { (story : Story) → IsAt session.old.engine (K.view session.old.store).records session.old.arrivals story
-        → IsMaybeReliedOn (K.view session.new.store).records (first_item items.now)
-        → EndsSo (λ ending. GoesOnPrinting (flow_of session.old.engine) (EndsMaybe (flow_of session.old.engine) story (first_item items.now) ending)
+    ensures flow { flow_of (S.engine_of session.new) ≡ flow_of (S.engine_of session.old) }
+    ensures told_before { IsSome (S.records session.new) → IsSome (S.records session.old) }
+    ensures ends { (story : Story) → S.at session.old story
+        → IsMaybeReliedOn (S.records session.new) (first_item items.now)
+        → EndsSo (λ ending. GoesOnPrinting (flow_of (S.engine_of session.old)) (EndsMaybe (flow_of (S.engine_of session.old)) story (first_item items.now) ending)
         (record { bytes = into.old.items; counts = counts.old }) (record { bytes = into.new.items; counts = counts.new })
-        (IsAt session.new.engine (K.view session.new.store).records session.new.arrivals)) result }
+        (S.at session.new)) result }
 {
     match items {
         [] => Ok(()),
@@ -85,20 +83,20 @@ fn take_first<K: Store + Drop>(
 }
 
 // Takes the steps of an item, prints their lines and counts them.
-fn take_item<K: Store + Drop>(
+fn take_item<S: Living>(
     alloc: Global,
-    session: &mut Session<K>,
+    session: &mut S,
     item: &Item,
     counts: &mut TurnCounts,
     into: &mut Vec<u8>,
 ) -> Result<(), EngineFault>
-    ensures flow { flow_of session.new.engine ≡ flow_of session.old.engine }
-    ensures told_before { IsSome (K.view session.new.store).records → IsSome (K.view session.old.store).records }
-    ensures ends { (story : Story) → IsAt session.old.engine (K.view session.old.store).records session.old.arrivals story
-        → IsItemReliedOn (K.view session.new.store).records item.now
-        → EndsSo (λ ending. GoesOnPrinting (flow_of session.old.engine) (EndsItem (flow_of session.old.engine) story item.now ending)
+    ensures flow { flow_of (S.engine_of session.new) ≡ flow_of (S.engine_of session.old) }
+    ensures told_before { IsSome (S.records session.new) → IsSome (S.records session.old) }
+    ensures ends { (story : Story) → S.at session.old story
+        → IsItemReliedOn (S.records session.new) item.now
+        → EndsSo (λ ending. GoesOnPrinting (flow_of (S.engine_of session.old)) (EndsItem (flow_of (S.engine_of session.old)) story item.now ending)
         (record { bytes = into.old.items; counts = counts.old }) (record { bytes = into.new.items; counts = counts.new })
-        (IsAt session.new.engine (K.view session.new.store).records session.new.arrivals)) result }
+        (S.at session.new)) result }
 {
     match item {
         Item::One(step) => take_step(alloc, session, step, counts, into),
@@ -107,41 +105,41 @@ fn take_item<K: Store + Drop>(
 }
 
 // Takes a step, prints its lines and counts it.
-fn take_step<K: Store + Drop>(
+fn take_step<S: Living>(
     alloc: Global,
-    session: &mut Session<K>,
+    session: &mut S,
     step: &Step,
     counts: &mut TurnCounts,
     into: &mut Vec<u8>,
 ) -> Result<(), EngineFault>
-    ensures flow { flow_of session.new.engine ≡ flow_of session.old.engine }
-    ensures told_before { IsSome (K.view session.new.store).records → IsSome (K.view session.old.store).records }
-    ensures ends { (story : Story) → IsAt session.old.engine (K.view session.old.store).records session.old.arrivals story
-        → IsReliedOn (K.view session.new.store).records step.now
-        → EndsSo (λ ending. GoesOnPrinting (flow_of session.old.engine) (EndsItem (flow_of session.old.engine) story (Item.One step.now) ending)
+    ensures flow { flow_of (S.engine_of session.new) ≡ flow_of (S.engine_of session.old) }
+    ensures told_before { IsSome (S.records session.new) → IsSome (S.records session.old) }
+    ensures ends { (story : Story) → S.at session.old story
+        → IsReliedOn (S.records session.new) step.now
+        → EndsSo (λ ending. GoesOnPrinting (flow_of (S.engine_of session.old)) (EndsItem (flow_of (S.engine_of session.old)) story (Item.One step.now) ending)
         (record { bytes = into.old.items; counts = counts.old }) (record { bytes = into.new.items; counts = counts.new })
-        (IsAt session.new.engine (K.view session.new.store).records session.new.arrivals)) result }
+        (S.at session.new)) result }
 {
     let stepped = session.step(step)?;
     counts.count(&stepped);
-    write_outcome(alloc, session.flow(), &stepped, into)?;
+    write_outcome(alloc, session.engine().flow(), &stepped, into)?;
     Ok(())
 }
 
 // Takes the first step that is enabled, again and again, at most so many, prints their lines and counts them.
-fn take_auto<K: Store + Drop>(
+fn take_auto<S: Living>(
     alloc: Global,
-    session: &mut Session<K>,
+    session: &mut S,
     most: u64,
     counts: &mut TurnCounts,
     into: &mut Vec<u8>,
 ) -> Result<(), EngineFault>
-    ensures flow { flow_of session.new.engine ≡ flow_of session.old.engine }
-    ensures told_before { IsSome (K.view session.new.store).records → IsSome (K.view session.old.store).records }
-    ensures ends { (story : Story) → IsAt session.old.engine (K.view session.old.store).records session.old.arrivals story
-        → EndsSo (λ ending. GoesOnPrinting (flow_of session.old.engine) (EndsItem (flow_of session.old.engine) story (Item.Auto most) ending)
+    ensures flow { flow_of (S.engine_of session.new) ≡ flow_of (S.engine_of session.old) }
+    ensures told_before { IsSome (S.records session.new) → IsSome (S.records session.old) }
+    ensures ends { (story : Story) → S.at session.old story
+        → EndsSo (λ ending. GoesOnPrinting (flow_of (S.engine_of session.old)) (EndsItem (flow_of (S.engine_of session.old)) story (Item.Auto most) ending)
         (record { bytes = into.old.items; counts = counts.old }) (record { bytes = into.new.items; counts = counts.new })
-        (IsAt session.new.engine (K.view session.new.store).records session.new.arrivals)) result }
+        (S.at session.new)) result }
 {
     for _ in 0..most {
         let stepped = session.auto_step()?;
@@ -149,7 +147,7 @@ fn take_auto<K: Store + Drop>(
             return Ok(());
         }
         counts.count(&stepped);
-        write_outcome(alloc, session.flow(), &stepped, into)?;
+        write_outcome(alloc, session.engine().flow(), &stepped, into)?;
     }
     Ok(())
 }

@@ -1,8 +1,8 @@
 //! What a line asks for is done, and answered.
-ghost use Rattle.std.specs.Prelude.{◌≡◌, ◌++◌, [], IsErr, IsErrOf, IsSome, IfOk};
+ghost use Rattle.std.specs.Prelude.{◌≡◌, ◌++◌, [], false, IsErr, IsErrOf, IsSome, IfOk, OnOk};
 ghost use Rattle.fw_engine.specs.Engine.{flow_of};
-ghost use Rattle.fw_session.specs.Session.{IsAt, is_open_in, came_in};
 ghost use Rattle.fw_session.specs.Story.{Story};
+ghost use Rattle.fw_living.specs.Life.{came_in_story};
 ghost use Rattle.fw_live.specs.Answered.{HasTurned};
 ghost use Rattle.fw_live.specs.Answers.{after_change, change_text, counts_ended, ending_text};
 ghost use Rattle.fw_live.specs.Asked as spec;
@@ -18,19 +18,19 @@ use crate::text::{write_closed, write_damaged, write_done, write_fault, write_fe
 use fw_engine::EngineFault;
 use fw_flow::NodeId;
 use fw_lines::Code;
-use fw_outside::Store;
-use fw_session::Session;
+use fw_living::{LifeFault, Living};
 use std::alloc::{AllocError, Global};
 
 /// How many batches may come to a source that is fed one more.
 const MOST: u64 = (1 << 20) - 1;
 
 /// What was heard, unless its change breaks a rule.
-pub(crate) fn allowed<K: Store + Drop>(
-    session: &Session<K>,
+pub(crate) fn allowed<S: Living>(
+    session: &S,
     heard: Result<Asked, LineRule>,
 ) -> Result<Asked, LineRule>
-    ensures { heard_in result ≡ spec.allowed (is_open_in session.now.arrivals) (came_in session.now.arrivals) (heard_in heard) }
+    ensures { (story : Story) → S.at session.now story
+        → heard_in result ≡ spec.allowed story.now.opened (came_in_story (flow_of (S.engine_of session.now)) story) (heard_in heard) }
 {
     let asked = heard?;
     match fault(session, &asked.change) {
@@ -40,8 +40,9 @@ pub(crate) fn allowed<K: Store + Drop>(
 }
 
 // The rule that a change breaks.
-fn fault<K: Store + Drop>(session: &Session<K>, change: &Change) -> Option<LineRule>
-    ensures { result ≡ change_fault (is_open_in session.now.arrivals) (came_in session.now.arrivals) (change_in change.now) }
+fn fault<S: Living>(session: &S, change: &Change) -> Option<LineRule>
+    ensures { (story : Story) → S.at session.now story
+        → result ≡ change_fault story.now.opened (came_in_story (flow_of (S.engine_of session.now)) story) (change_in change.now) }
 {
     match change {
         Change::Nothing => None,
@@ -51,8 +52,9 @@ fn fault<K: Store + Drop>(session: &Session<K>, change: &Change) -> Option<LineR
 }
 
 // The rule that a batch breaks, whatever it holds.
-fn feed_fault<K: Store + Drop>(session: &Session<K>, source: NodeId) -> Option<LineRule>
-    ensures { result ≡ change_fault (is_open_in session.now.arrivals) (came_in session.now.arrivals) (feeds source []) }
+fn feed_fault<S: Living>(session: &S, source: NodeId) -> Option<LineRule>
+    ensures { (story : Story) → S.at session.now story
+        → result ≡ change_fault story.now.opened (came_in_story (flow_of (S.engine_of session.now)) story) (feeds source []) }
 {
     if !session.is_open(source) {
         return Some(LineRule::Closed);
@@ -64,8 +66,9 @@ fn feed_fault<K: Store + Drop>(session: &Session<K>, source: NodeId) -> Option<L
 }
 
 // The rule that the end of a source breaks.
-fn close_fault<K: Store + Drop>(session: &Session<K>, source: NodeId) -> Option<LineRule>
-    ensures { result ≡ change_fault (is_open_in session.now.arrivals) (came_in session.now.arrivals) (closes source) }
+fn close_fault<S: Living>(session: &S, source: NodeId) -> Option<LineRule>
+    ensures { (story : Story) → S.at session.now story
+        → result ≡ change_fault story.now.opened (came_in_story (flow_of (S.engine_of session.now)) story) (closes source) }
 {
     if session.is_open(source) {
         None
@@ -74,55 +77,83 @@ fn close_fault<K: Store + Drop>(session: &Session<K>, source: NodeId) -> Option<
     }
 }
 
-/// Does what a line asks for, and answers it; and counts it.
-pub(crate) fn turn<K: Store + Drop>(
+/// Does what a line asks for, keeps it, and answers it; and counts it.
+pub(crate) fn turn<S: Living>(
     alloc: Global,
-    session: &mut Session<K>,
+    session: &mut S,
     asked: &Asked,
     rests: bool,
     counts: &mut LineCounts,
     into: &mut Vec<u8>,
-) -> Result<(), AllocError>
-    ensures flow { flow_of session.new.engine ≡ flow_of session.old.engine }
-    ensures told_before { IsSome (K.view session.new.store).records → IsSome (K.view session.old.store).records }
-    ensures turned { (story : Story) → IsAt session.old.engine (K.view session.old.store).records session.old.arrivals story
-        → IsMaybeReliedOn (K.view session.new.store).records (first_item asked.now.items)
-        → IfOk result (λ _. HasTurned rests (flow_of session.old.engine) story (read_in asked.now) counts.old counts.new into.old.items into.new.items
-        (IsAt session.new.engine (K.view session.new.store).records session.new.arrivals)) }
+) -> Result<(), LifeFault>
+    ensures flow { flow_of (S.engine_of session.new) ≡ flow_of (S.engine_of session.old) }
+    ensures told_before { IsSome (S.records session.new) → IsSome (S.records session.old) }
+    ensures lasts { S.lasts ≡ false → IsErrOf result LifeFault.StoreFault → ⊥ }
+    ensures turned { (story : Story) → S.at session.old story → IsMaybeReliedOn (S.records session.new) (first_item asked.now.items)
+        → IfOk result (λ _. HasTurned rests (flow_of (S.engine_of session.old)) story (read_in asked.now) counts.old counts.new into.old.items
+        into.new.items (λ next. S.at session.new next × S.keeps session.new next)) }
     ensures lines { counts.new.lines ≡ counts.old.lines }
 {
     begin(alloc, session, &asked.change, into)?;
+    let begun = into.len();
     let mut steps = TurnCounts::new();
     let items = asked.items.as_slice();
     let taken = take_turn(alloc, session, items, rests, &mut steps, into);
     counts.count_turn(steps);
-    end(alloc, taken, steps.done, counts, into)
+    keep(session, taken, behind(into, begun))?;
+    end(alloc, taken, steps.done, counts, into)?;
+    Ok(())
 }
 
 // Feeds a source, or closes it, and tells the epoch.
-fn begin<K: Store + Drop>(
+fn begin<S: Living>(
     alloc: Global,
-    session: &mut Session<K>,
+    session: &mut S,
     change: &Change,
     into: &mut Vec<u8>,
-) -> Result<(), AllocError>
-    ensures flow { flow_of session.new.engine ≡ flow_of session.old.engine }
-    ensures store { session.new.store ≡ session.old.store }
-    ensures at { (story : Story) → IsAt session.old.engine (K.view session.old.store).records session.old.arrivals story
-        → IfOk result (λ _. IsAt session.new.engine (K.view session.new.store).records session.new.arrivals (after_change (change_in change.now) story)) }
-    ensures told { IfOk result (λ _. into.new.items
-        ≡ into.old.items ++ change_text (flow_of session.old.engine) (came_in session.old.arrivals) (change_in change.now)) }
+) -> Result<(), LifeFault>
+    ensures flow { flow_of (S.engine_of session.new) ≡ flow_of (S.engine_of session.old) }
+    ensures told_before { IsSome (S.records session.new) → IsSome (S.records session.old) }
+    ensures lasts { S.lasts ≡ false → IsErrOf result LifeFault.StoreFault → ⊥ }
+    ensures begun { (story : Story) → S.at session.old story
+        → IfOk result (λ _. S.at session.new (after_change (change_in change.now) story) × (into.new.items ≡ into.old.items
+        ++ change_text (flow_of (S.engine_of session.old)) (came_in_story (flow_of (S.engine_of session.old)) story) (change_in change.now))) }
 {
     match change {
-        Change::Nothing => Ok(()),
-        Change::Feed(source, recs) => match session.feed(*source, recs) {
-            Ok(epoch) => write_fed(alloc, session.flow(), *source, epoch, into),
-            Err(_) => Err(AllocError),
-        },
-        Change::Close(source) => match session.close(*source) {
-            Ok(epoch) => write_closed(alloc, session.flow(), *source, epoch, into),
-            Err(_) => Err(AllocError),
-        },
+        Change::Nothing => {}
+        Change::Feed(source, recs) => {
+            let epoch = session.feed(*source, recs)?;
+            write_fed(alloc, session.engine().flow(), *source, epoch, into)?;
+        }
+        Change::Close(source) => {
+            let epoch = session.close(*source)?;
+            write_closed(alloc, session.engine().flow(), *source, epoch, into)?;
+        }
+    }
+    Ok(())
+}
+
+// The bytes behind so many; none where there are fewer.
+fn behind(bytes: &[u8], count: usize) -> &[u8] {
+    bytes.get(count..).unwrap_or(&[])
+}
+
+// Keeps what the steps of a line did, of which these are the lines. The errors are those of `keep_line`, and want of memory where these
+// steps ended so.
+fn keep<S: Living>(
+    session: &mut S,
+    taken: Result<(), EngineFault>,
+    lines: &[u8],
+) -> Result<(), LifeFault>
+    ensures flow { flow_of (S.engine_of session.new) ≡ flow_of (S.engine_of session.old) }
+    ensures told_before { IsSome (S.records session.new) → IsSome (S.records session.old) }
+    ensures lasts { S.lasts ≡ false → IsErrOf result LifeFault.StoreFault → ⊥ }
+    ensures kept { (story : Story) → S.at session.old story → OnOk result (S.at session.new story × S.keeps session.new story) }
+    ensures no_memory { IsErrOf taken EngineFault.NoMemory → IsErr result }
+{
+    match taken {
+        Err(EngineFault::NoMemory) => Err(LifeFault::NoMemory),
+        _ => session.keep_line(lines),
     }
 }
 

@@ -1,1 +1,5 @@
 pub mod Beginnings
+pub mod CalledLaws
+pub mod Known
+pub mod Parts
+pub mod TextLaws

@@ -1,12 +1,12 @@
 //! A folder of files that were read.
-ghost use Rattle.std.specs.Prelude.{◌≡◌, ◌+◌, ◌^◌, ◌<◌, ◌≤◌, [], Some, IfOk, OnOk, IsErrOf, IsSome, IsSomeAnd, length, take};
+ghost use Rattle.std.specs.Prelude.{◌≡◌, ◌+◌, ◌^◌, ◌<◌, ◌≤◌, ℕ, List, [], ◌∷◌, ◌++◌, map, Some, IfOk, OnOk, IsErrOf, IsSome, IsSomeAnd, length, take};
 ghost use Rattle.std.specs.Option.{option_copied};
-ghost use Rattle.fw_telling.specs.Read.{reading_under, text_read};
+ghost use Rattle.fw_telling.specs.Read.{AreTextsOf, reading_under, text_read};
 
+use crate::NamedFiles;
 use crate::reading::{Reading, hand_over, read_text};
 use fw_outside::{FetchFault, Folder};
 use std::alloc::{AllocError, Global};
-use std::rt::Files;
 
 /// A file's name, and what came of reading it.
 #[derive(Debug, Drop)]
@@ -30,33 +30,66 @@ impl ReadFolder {
     ///
     /// # Errors
     ///
-    /// Memory was refused.
-    pub fn read<R: Files>(
+    /// Memory was refused for the names. Where it is refused for the bytes of a file, each call that asks for them answers so.
+    pub fn read<T: NamedFiles>(
         alloc: Global,
-        files: &R,
+        files: &T,
         names: &[&str],
         limit: usize,
     ) -> Result<Self, AllocError>
         requires { limit < 2 ^ 32 }
+        ensures texts { IfOk result (λ folder. AreTextsOf (T.bytes files.now) limit (map (λ name. name.now) names.now) folder.texts.items) }
         ensures tells { IfOk result (λ folder. IsSome (⟦<ReadFolder as Folder>⟧.texts folder)) }
         ensures unasked { IfOk result (λ folder. ⟦<ReadFolder as Folder>⟧.fetch_count folder ≡ 0) }
         ensures faultless { IfOk result (λ folder. ⟦<ReadFolder as Folder>⟧.fault_count folder ≡ 0) }
     {
-        let mut texts = Vec::new(alloc);
-        for name in names {
-            if find_reading(&texts, name).is_none() {
-                texts.push(ReadText {
-                    name: String::from_str(alloc, name)?,
-                    reading: read_text(alloc, files, name, limit),
-                })?;
-            }
-        }
+        let texts = read_each(alloc, files, names, limit)?;
         Ok(ReadFolder {
             texts,
             fetches: 0,
             faults: 0,
         })
     }
+}
+
+// Reads the file of each name, once.
+fn read_each<T: NamedFiles>(
+    alloc: Global,
+    files: &T,
+    names: &[&str],
+    limit: usize,
+) -> Result<Vec<ReadText>, AllocError>
+    requires { limit < 2 ^ 32 }
+    ensures { IfOk result (λ texts. AreTextsOf (T.bytes files.now) limit (map (λ name. name.now) names.now) texts.items) }
+{
+    let mut texts = Vec::new(alloc);
+    for name in names {
+        read_once(alloc, files, name, limit, &mut texts)?;
+    }
+    Ok(texts)
+}
+
+// Reads the file of this name, where that was not done.
+fn read_once<T: NamedFiles>(
+    alloc: Global,
+    files: &T,
+    name: &str,
+    limit: usize,
+    texts: &mut Vec<ReadText>,
+) -> Result<(), AllocError>
+    requires { limit < 2 ^ 32 }
+    ensures { (names : List (List ℕ)) → AreTextsOf (T.bytes files.now) limit names texts.old.items
+        → OnOk result (AreTextsOf (T.bytes files.now) limit (names ++ name.now ∷ []) texts.new.items) }
+{
+    if find_reading(texts, name).is_some() {
+        return Ok(());
+    }
+    let text = ReadText {
+        name: String::from_str(alloc, name)?,
+        reading: read_text(alloc, files, name, limit),
+    };
+    texts.push(text)?;
+    Ok(())
 }
 
 // What came of reading the first file of this name.

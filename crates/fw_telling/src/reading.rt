@@ -1,12 +1,12 @@
 //! What came of reading a file.
 ghost use Rattle.std.specs.Prelude.{◌≡◌, ◌++◌, ◌+◌, ◌^◌, ◌<◌, ◌≤◌, [], Some, take, length, IfOk, IfSome, OnOk, IsErrOf, IsSomeAnd};
-ghost use Rattle.fw_telling.specs.Read.{IsAllOf, IsReadingOf, bytes_read};
+ghost use Rattle.fw_telling.specs.Read.{IsAllOf, IsReadingOf, MayComeOf, bytes_read};
 
+use crate::NamedFiles;
 use fw_outside::FetchFault;
 use std::alloc::Global;
+use std::io;
 use std::io::{ErrorKind, Read};
-use std::rt::Files;
-use std::{fs, io};
 
 /// What came of reading a file.
 #[derive(Debug, Drop)]
@@ -21,27 +21,35 @@ pub(crate) enum Reading {
     NoMemory,
 }
 
-/// Reads the file of a path, and no more of it than one byte behind the limit.
-pub(crate) fn read_text<R: Files>(alloc: Global, files: &R, path: &str, limit: usize) -> Reading
+/// Reads the file under a name, and no more of it than one byte behind the limit.
+#[tactic(auto, using(crate::proofs::Known::read_nothing))]
+pub(crate) fn read_text<T: NamedFiles>(
+    alloc: Global,
+    files: &T,
+    name: &str,
+    limit: usize,
+) -> Reading
     requires { limit < 2 ^ 32 }
+    ensures { IfSome (T.bytes files.now name.now) (λ bytes. MayComeOf limit bytes result) }
 {
-    match open_and_read(alloc, files, path, limit) {
+    match open_and_read(alloc, files, name, limit) {
         Ok(reading) => reading,
         Err(error) if error.kind() == ErrorKind::OutOfMemory => Reading::NoMemory,
         Err(_) => Reading::Failed,
     }
 }
 
-// Opens the file of a path, and reads it.
-fn open_and_read<R: Files>(
+// Opens the file under a name, and reads it.
+fn open_and_read<T: NamedFiles>(
     alloc: Global,
-    files: &R,
-    path: &str,
+    files: &T,
+    name: &str,
     limit: usize,
 ) -> io::Result<Reading>
     requires { limit < 2 ^ 32 }
+    ensures { IfOk result (λ reading. IfSome (T.bytes files.now name.now) (λ bytes. IsReadingOf limit bytes reading)) }
 {
-    read_file(alloc, fs::open(files, path)?, limit)
+    read_file(alloc, files.open(name)?, limit)
 }
 
 // Reads a file, where it tells its bytes all of them, or one more than the limit.

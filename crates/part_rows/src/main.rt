@@ -11,7 +11,8 @@ mod restored;
 mod writes;
 
 use crate::families::PartFamilies;
-use fw_outside::{Sink, StreamSink};
+use fw_outside::Sink;
+use fw_telling::TellingSink;
 use row_words::tell_files;
 use std::io::{self, ErrorKind};
 
@@ -23,7 +24,7 @@ fn main(rt: HostRuntime) -> io::Result<()> {
     };
     tell_files(&rt, &families)?;
     // standard error is a stream too, which nothing else here writes
-    match StreamSink::new(rt.stderr()).write(b"all rows are told\n") {
+    match TellingSink::new(rt.stderr()).write(b"all rows are told\n") {
         Ok(()) => Ok(()),
         Err(_) => Err(ErrorKind::Other.into()),
     }

@@ -1,20 +1,21 @@
 //! The objects outside: real files, streams, and what lies in memory; and generated texts.
 use fw_generate::{Texts, generate};
 use fw_outside::{
-    FaultlessFolder, FaultlessSink, FetchFault, FileFolder, Folder, FoulStore, MemText, OutFault,
-    Sink, Store, StreamSink,
+    FaultlessFolder, FaultlessSink, FetchFault, Folder, FoulStore, MemText, OutFault, Sink, Store,
 };
+use fw_telling::{ReadFolder, TellingSink};
 use row_words::{Answers, NoAnswer, Row, part, show, tell_row};
 use std::alloc::{AllocError, Global};
 use std::fmt::Write;
 use std::io::BufWriter;
 use std::rt::Files;
 
-/// Real files, and what the last call left that got bytes.
+/// Real files, those of them that were read, and what the last call left that got bytes.
 #[derive(Drop)]
 struct Outside<'a, R: Files> {
     alloc: Global,
-    folder: FileFolder<'a, R>,
+    files: &'a R,
+    folder: ReadFolder,
     bytes: Vec<u8>,
 }
 
@@ -27,7 +28,8 @@ pub fn tell<R: Files>(
 ) -> Result<(), AllocError> {
     let mut outside = Outside {
         alloc,
-        folder: FileFolder::new(files),
+        files,
+        folder: ReadFolder::read(alloc, files, &[], 0)?,
         bytes: Vec::new(alloc),
     };
     tell_row(alloc, row, &mut outside, told)
@@ -40,6 +42,7 @@ impl<R: Files> Answers for Outside<'_, R> {
         let alloc = self.alloc;
         let (word, rest) = part(line);
         match word {
+            "read" => self.read(rest, said),
             "file" => fetch(&mut self.folder, rest, &mut self.bytes, said),
             "text" => fetch_from_memory(alloc, rest, &mut self.bytes, said),
             "stream" => stream(alloc, rest, said),
@@ -49,6 +52,18 @@ impl<R: Files> Answers for Outside<'_, R> {
             "generate" => texts(alloc, rest, said),
             _ => Err(NoAnswer::NotSpelled),
         }
+    }
+}
+
+impl<R: Files> Outside<'_, R> {
+    /// Reads the files of names, at most so many bytes of each and one more: `LIMIT NAME ..`.
+    fn read(&mut self, words: &str, said: &mut String) -> Result<(), NoAnswer> {
+        let (limit, names) = part(words);
+        let limit = usize::from(limit.parse::<u16>()?);
+        let names: Vec<&str> = names.split_whitespace().collect(self.alloc)?;
+        self.folder = ReadFolder::read(self.alloc, self.files, &names, limit)?;
+        write!(said, "names {}", names.len())?;
+        Ok(())
     }
 }
 
@@ -108,7 +123,7 @@ fn stream(alloc: Global, words: &str, said: &mut String) -> Result<(), NoAnswer>
     let (room, pieces) = part(words);
     let room = usize::from(room.parse::<u16>()?);
     let mut buffer = vec![in alloc; 0u8; room]?;
-    let mut sink = StreamSink::new(buffer.as_mut_slice());
+    let mut sink = TellingSink::new(buffer.as_mut_slice());
     let became = written(&mut sink, pieces)?;
     say_outcome(became, b"", sink.faults(), said)
 }
@@ -118,7 +133,7 @@ fn buffer(alloc: Global, pieces: &str, said: &mut String) -> Result<(), NoAnswer
     let Ok(mut writer) = BufWriter::new(alloc, Vec::new(alloc)) else {
         return Err(NoAnswer::NoMemory);
     };
-    let mut sink = StreamSink::new(&mut writer);
+    let mut sink = TellingSink::new(&mut writer);
     let became = written(&mut sink, pieces)?;
     let faults = sink.faults();
     say_outcome(became, writer.get_ref(), faults, said)

@@ -5,6 +5,7 @@ use crate::noted::NotedStore;
 use crate::run::{Run, with_line};
 use crate::stopped::StoppedStore;
 use fw_choosing::{falkirk_choose, is_choosing};
+use fw_live::{MemLines, falkirk_live, is_live};
 use fw_outside::{
     Folder, FoulBytes, FoulStore, MemFolder, MemSink, MemStore, MemText, Sink, Store,
 };
@@ -25,6 +26,9 @@ struct Outside {
     folder: MemFolder,
     out: MemSink,
     notes: MemSink,
+    /// The lines that come in, and which calls of the store of a session fail.
+    lines: Vec<u8>,
+    failing: Vec<u64>,
 }
 
 impl Outside {
@@ -35,6 +39,8 @@ impl Outside {
             folder: MemFolder::new(texts, failing.folder.clone()?),
             out: MemSink::new(alloc, failing.out.clone()?),
             notes: MemSink::new(alloc, failing.notes.clone()?),
+            lines: run.text("lines").unwrap_or(&[]).to_vec(alloc)?,
+            failing: failing.store.clone()?,
         })
     }
 }
@@ -293,6 +299,9 @@ fn run_over<K: Store>(
     if is_choosing(&words) {
         return Ok(choose_over(alloc, &words, outside));
     }
+    if is_live(&words) {
+        return live_over(alloc, &words, outside);
+    }
     Ok(answer_over(alloc, &words, outside, store))
 }
 
@@ -307,15 +316,47 @@ fn words_of(alloc: Global, words: &str) -> Result<Vec<&str>, AllocError> {
 
 /// Runs a command over texts of choices, which wants no store; the number of its status.
 fn choose_over(alloc: Global, words: &[&str], outside: &mut Outside) -> u8 {
-    let Outside { folder, out, notes } = outside;
+    let Outside {
+        folder,
+        out,
+        notes,
+        ..
+    } = outside;
     falkirk_choose(alloc, words, folder, out, notes).number()
+}
+
+/// Runs a session's command over the lines that come in, and over a store of its own; the number of its status.
+fn live_over(alloc: Global, words: &[&str], outside: &mut Outside) -> Result<u8, AllocError> {
+    let mut lines = MemLines::new(lines_of(alloc, &outside.lines)?);
+    let store = MemStore::failing_at(alloc, outside.failing.clone()?);
+    let Outside {
+        folder,
+        out,
+        notes,
+        ..
+    } = outside;
+    Ok(falkirk_live(alloc, words, folder, store, &mut lines, out, notes).number())
+}
+
+/// The lines of a text, each without the LF that ends it.
+fn lines_of(alloc: Global, text: &[u8]) -> Result<Vec<Vec<u8>>, AllocError> {
+    let mut lines = Vec::new(alloc);
+    for line in text.split_inclusive(|byte| *byte == b'\n') {
+        lines.push(line.strip_suffix(b"\n").unwrap_or(line).to_vec(alloc)?)?;
+    }
+    Ok(lines)
 }
 
 /// Runs any other command; the number of its status.
 fn answer_over<K: Store>(alloc: Global, words: &[&str], outside: &mut Outside, store: &mut K) -> u8
     requires { IsEmptyStore (K.view store.old).records }
 {
-    let Outside { folder, out, notes } = outside;
+    let Outside {
+        folder,
+        out,
+        notes,
+        ..
+    } = outside;
     falkirk(alloc, words, folder, store, out, notes).number()
 }
 

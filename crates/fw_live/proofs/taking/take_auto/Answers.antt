@@ -3,7 +3,6 @@ use Rattle.std.proofs.lemmas.Result.{err_from_is_err_and}
 use Rattle.fw_running.specs.EffectText.{outcome_text}
 use Rattle.fw_running.specs.Steps.{outcome_of}
 use Rattle.fw_engine.specs.Engine.{flow_of}
-use Rattle.fw_session.specs.Session.{IsAt}
 use Rattle.fw_live.proofs.TakingLaws.{auto-begun, auto-ends, auto-fails, auto-full, auto-more}
 use Rattle.fw_live.proofs.taking.take_auto.Goals as goal
 
@@ -13,13 +12,12 @@ loop-init g c =
     record {
       flow = refl;
       told_before = λ told. told;
-      taken = λ story at. auto-begun (flow_of old.engine) story (record { bytes = c.args.into.now.items; counts = c.args.counts.now })
-          (IsAt old.engine (g.K.Store.view old.store).records old.arrivals) at;
+      taken = λ story at. auto-begun (flow_of (g.S.Living.engine_of old)) story (record { bytes = c.args.into.now.items; counts = c.args.counts.now })
+          (g.S.Living.at old) at;
     }
 
 pub loop-preserved : goal.loop-preserved
 loop-preserved g c =
-    let view = g.K.Store.view in
     let old = c.args.session.now in
     let now = c.loop.session in
     let new = c.auto_step.new.self in
@@ -28,33 +26,31 @@ loop-preserved g c =
     record {
       flow = c.auto_step.ensures.flow ∙ inv.flow;
       told_before = λ told. inv.told_before (c.auto_step.ensures.told_before told);
-      taken = λ story at. auto-more (flow_of old.engine) story c.loop.counter now.engine (view now.store).records now.arrivals o
-          (IsAt new.engine (view new.store).records new.arrivals) (record { bytes = c.args.into.now.items; counts = c.args.counts.now })
+      taken = λ story at. auto-more (flow_of (g.S.Living.engine_of old)) (flow_of (g.S.Living.engine_of now)) story c.loop.counter o
+          (g.S.Living.at now) (g.S.Living.at new) (record { bytes = c.args.into.now.items; counts = c.args.counts.now })
           (record { bytes = c.loop.into.items; counts = c.loop.counts }) (record { bytes = c.write_outcome.new.into.items; counts = c.count.new.self })
           inv.flow (inv.taken story at) (λ s there. c.in_ok-stepped.ensures.goes_on.ok s there) (sym c.is_idle.ensures ∙ c.if-is_idle.false)
-          (c.in_ok-write_outcome.ensures ∙ ap (λ d. c.loop.into.items ++ outcome_text d o) (c.flow.ensures ∙ c.auto_step.ensures.flow ∙ inv.flow)) c.count.ensures;
+          (c.in_ok-write_outcome.ensures ∙ ap (λ d. c.loop.into.items ++ outcome_text d o) (c.flow.ensures ∙ ap flow_of c.engine.ensures.engine ∙ c.auto_step.ensures.flow ∙ inv.flow)) c.count.ensures;
     }
 
 pub returns-in_err-stepped-clause-ends : goal.returns-in_err-stepped-clause-ends
 returns-in_err-stepped-clause-ends g c = λ story at.
     let p = err_from_is_err_and c.from_residual.result c.from_residual.ensures.1 in
-    let view = g.K.Store.view in
     let old = c.args.session.now in
     let now = c.loop.session in
     let new = c.auto_step.new.self in
-    rw (p.1, p.2) (auto-fails (flow_of old.engine) (flow_of now.engine) story c.loop.counter c.args.most now.arrivals c.in_err-stepped.field-0.0
-    (IsAt now.engine (view now.store).records now.arrivals) (IsAt new.engine (view new.store).records new.arrivals)
+    rw (p.1, p.2) (auto-fails (flow_of (g.S.Living.engine_of old)) (flow_of (g.S.Living.engine_of now)) story c.loop.counter c.args.most c.in_err-stepped.field-0.0
+    (g.S.Living.at now) (g.S.Living.at new)
     (record { bytes = c.args.into.now.items; counts = c.args.counts.now }) (record { bytes = c.loop.into.items; counts = c.loop.counts })
     (c.loop.invariant.taken story at) c.in_err-stepped.ensures.goes_on c.loop-test.true)
 
 pub returns-then-is_idle-clause-ends : goal.returns-then-is_idle-clause-ends
 returns-then-is_idle-clause-ends g c = λ story at.
-    let view = g.K.Store.view in
     let old = c.args.session.now in
     let now = c.loop.session in
     let new = c.auto_step.new.self in
-    auto-ends (flow_of old.engine) story c.loop.counter c.args.most now.engine (view now.store).records now.arrivals (outcome_of c.in_ok-stepped.stepped)
-    (IsAt new.engine (view new.store).records new.arrivals) (record { bytes = c.args.into.now.items; counts = c.args.counts.now })
+    auto-ends (flow_of (g.S.Living.engine_of old)) (flow_of (g.S.Living.engine_of now)) story c.loop.counter c.args.most (outcome_of c.in_ok-stepped.stepped)
+    (g.S.Living.at now) (g.S.Living.at new) (record { bytes = c.args.into.now.items; counts = c.args.counts.now })
     (record { bytes = c.loop.into.items; counts = c.loop.counts }) c.loop.invariant.flow (c.loop.invariant.taken story at)
     (λ s there. c.in_ok-stepped.ensures.goes_on.ok s there) (sym c.is_idle.ensures ∙ c.if-is_idle.true) c.loop-test.true
 
@@ -63,6 +59,6 @@ returns-clause-ends g c = λ story at.
     let old = c.args.session.now in
     let now = c.loop.session in
     let whole : c.loop.counter ≡ c.args.most = omega (arith, c.loop-test.false, c.loop.auto.counter-end) in
-    auto-full (flow_of old.engine) story c.loop.counter c.args.most (IsAt now.engine (g.K.Store.view now.store).records now.arrivals)
+    auto-full (flow_of (g.S.Living.engine_of old)) story c.loop.counter c.args.most (g.S.Living.at now)
     (record { bytes = c.args.into.now.items; counts = c.args.counts.now }) (record { bytes = c.loop.into.items; counts = c.loop.counts })
     (c.loop.invariant.taken story at) whole

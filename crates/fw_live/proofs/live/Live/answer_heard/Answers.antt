@@ -1,28 +1,27 @@
 use Rattle.std.proofs.Common.{ap, sym, ◌∙◌}
-use Rattle.fw_session.specs.Session.{IsAt, is_open_in, came_in}
+use Rattle.fw_engine.specs.Engine.{flow_of}
+use Rattle.fw_living.specs.Life.{came_in_story}
 use Rattle.fw_live.specs.Reading.{heard_in, read_in}
-use Rattle.fw_live.proofs.AnsweredLaws.{allowed-relied, answer-refused, answer-turned, if-if, ok-if}
+use Rattle.fw_live.proofs.AnsweredLaws.{allowed-relied, answer-refused, answer-turned, if-if}
 use Rattle.fw_live.proofs.live.Live.answer_heard.Goals as goal
 
-pub returns-in-Err-clause-answered : goal.returns-in-Err-clause-answered
-returns-in-Err-clause-answered g c = λ story at relied.
+pub returns-in_ok-write_refused-in-Err-clause-answered : goal.returns-in_ok-write_refused-in-Err-clause-answered
+returns-in_ok-write_refused-in-Err-clause-answered g c = λ story at keeps relied.
     let live = c.args.self.now in
-    let records = (g.K.Store.view live.session.store).records in
-    ok-if c.write_refused.result _ _ c.write_refused.ensures (λ written.
-    answer-refused live.rests live.session.engine records live.session.arrivals story (heard_in c.args.heard) c.in-Err.rule live.counts
-    c.count_line.new.self c.args.into.now.items c.write_refused.new.into.items at (ap heard_in (sym c.in-Err.is) ∙ c.allowed.ensures)
-    c.count_line.ensures written)
+    let here = live.session in
+    answer-refused live.rests (flow_of (g.S.Living.engine_of here)) story (heard_in c.args.heard) c.in-Err.rule live.counts c.count_line.new.self
+    c.args.into.now.items c.write_refused.new.into.items (λ s. g.S.Living.at here s × g.S.Living.keeps here s) (at, keeps)
+    (ap heard_in (sym c.in-Err.is) ∙ c.allowed.ensures story at) c.count_line.ensures c.in_ok-write_refused-in-Err.ensures
 
 pub returns-in-Ok-clause-answered : goal.returns-in-Ok-clause-answered
-returns-in-Ok-clause-answered g c = λ story at relied.
-    let view = g.K.Store.view in
+returns-in-Ok-clause-answered g c = λ story at keeps relied.
     let live = c.args.self.now in
-    let records = (view live.session.store).records in
+    let here = live.session in
     let new = c.turn.new.session in
-    let heard = ap heard_in (sym c.in-Ok.is) ∙ c.allowed.ensures in
+    let flow = flow_of (g.S.Living.engine_of here) in
+    let heard = ap heard_in (sym c.in-Ok.is) ∙ c.allowed.ensures story at in
     if-if c.turn.result _ _
-    (c.turn.ensures.turned story at (allowed-relied (is_open_in live.session.arrivals) (came_in live.session.arrivals) (heard_in c.args.heard)
-    (read_in c.in-Ok.asked) (view new.store).records heard relied))
-    (λ has. answer-turned live.rests live.session.engine records live.session.arrivals story (heard_in c.args.heard) (read_in c.in-Ok.asked)
-    live.counts c.count_line.new.self c.turn.new.counts c.args.into.now.items c.turn.new.into.items
-    (IsAt new.engine (view new.store).records new.arrivals) at heard c.count_line.ensures has)
+    (c.turn.ensures.turned story at (allowed-relied story.now.opened (came_in_story flow story) (heard_in c.args.heard) (read_in c.in-Ok.asked)
+    (g.S.Living.records new) heard relied))
+    (λ has. answer-turned live.rests flow story (heard_in c.args.heard) (read_in c.in-Ok.asked) live.counts c.count_line.new.self c.turn.new.counts
+    c.args.into.now.items c.turn.new.into.items (λ s. g.S.Living.at new s × g.S.Living.keeps new s) heard c.count_line.ensures has)

@@ -1,0 +1,62 @@
+use Rattle.std.proofs.Common.{◌≡◌, Err, refl, ap, subst, ◌∙◌}
+use Rattle.fw_engine.specs.Engine.{flow_of}
+use Rattle.fw_session.specs.Session.{IsAt}
+use Rattle.fw_session.specs.Story.{IsStory}
+use Rattle.fw_command.specs.Writing.{IsWritten}
+use Rattle.fw_live.specs.Call.{EndsBefore, EndsWhole, IsLineCutAt, status_by}
+use Rattle.fw_live.specs.Life.{counts_line}
+use Rattle.fw_live.specs.Serving.{IsPutBefore, Serves, ServesPart, LivePoint}
+use Rattle.fw_live.proofs.CommandLaws.{flow-served, flow-stopped, stopped-before}
+use Rattle.fw_live.proofs.command.answer_all.Goals as goal
+
+pub returns-in-Ok : goal.returns-in-Ok
+returns-in-Ok g c = λ flow is none at.
+    let view = g.O.Sink.view in
+    let old = c.args.live in
+    let new = c.serve.new.live in
+    let input = c.serve.new.input in
+    let K = g.K.Store.view in
+    let before : LivePoint = record {
+      counts = old.counts;
+      records = (K old.session.store).records;
+      At = λ s. IsAt old.session.engine (K old.session.store).records old.session.arrivals s
+          × IsAt old.session.engine (K old.session.store).records old.session.arrivals s;
+    } in
+    let after : LivePoint = record {
+      counts = new.counts;
+      records = (K new.session.store).records;
+      At = λ s. IsAt new.session.engine (K new.session.store).records new.session.arrivals s
+          × IsAt new.session.engine (K new.session.store).records new.session.arrivals s;
+    } in
+    let first = view c.args.out.now in
+    let mid = view c.serve.new.out in
+    let given = g.L.LineSource.given c.args.input.now in
+    let gives = g.L.LineSource.given input in
+    flow-served K old.rests flow before after new.session.store given gives (g.L.LineSource.ended input) c.end.result first mid (view c.end.new.out) none
+    (at, at) refl (λ s there. subst (λ d. IsStory d s) (c.serve.ensures.flow ∙ is) there.0.of_story)
+    (subst (λ d. Serves old.rests d before after given gives (λ text. IsWritten text first mid)) is c.in-Ok.ensures.served) c.in-Ok.ensures.ended
+    (subst (λ k. EndsWhole c.end.result → (c.end.result ≡ status_by k) × IsWritten (counts_line k) mid (view c.end.new.out)) c.counts.ensures c.end.ensures.whole)
+    (subst (λ k. EndsBefore c.end.result → IsLineCutAt c.end.result (counts_line k) mid (view c.end.new.out)) c.counts.ensures c.end.ensures.part) c.end.ensures.begun c.end.ensures.no_root
+
+pub returns : goal.returns
+returns g c = λ flow is none at.
+    let view = g.O.Sink.view in
+    let old = c.args.live in
+    let new = c.serve.new.live in
+    let input = c.serve.new.input in
+    let K = g.K.Store.view in
+    let before : LivePoint = record {
+      counts = old.counts;
+      records = (K old.session.store).records;
+      At = λ s. IsAt old.session.engine (K old.session.store).records old.session.arrivals s
+          × IsAt old.session.engine (K old.session.store).records old.session.arrivals s;
+    } in
+    let first = view c.args.out.now in
+    let last = view c.serve.new.out in
+    let given = g.L.LineSource.given c.args.input.now in
+    let gives = g.L.LineSource.given input in
+    let fault = c.in-Err.fault in
+    rw (c.stopped.ensures) (flow-stopped K old.rests flow before (K new.session.store).records new.session.store given gives (g.L.LineSource.ended input) fault
+    first last none (at, at) refl
+    (subst (λ d. ServesPart old.rests d before (K new.session.store).records given gives (IsPutBefore fault first last)) is c.in-Err.ensures.part)
+    (stopped-before fault (λ e. c.serve.ensures.lasts refl (c.in-Err.is ∙ ap Err e))))

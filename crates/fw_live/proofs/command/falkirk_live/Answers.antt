@@ -1,0 +1,16 @@
+use Rattle.fw_command.specs.Words.{words_in}
+use Rattle.fw_run.proofs.CountLaws.{never_fall-notes}
+use Rattle.fw_live.specs.Words.{live_of}
+use Rattle.fw_live.proofs.CommandLaws.{live-told}
+use Rattle.fw_live.proofs.command.falkirk_live.Goals as goal
+
+pub returns-clause-answers : goal.returns-clause-answers
+returns-clause-answers g c =
+    let view = g.O.Sink.view in
+    let input = c.run-status.new.input in
+    live-told g.K.Store.view (g.F.Folder.texts c.args.folder.now) (live_of (words_in c.args.words.now)) (g.L.LineSource.given c.args.input.now)
+    (g.L.LineSource.given input) (g.L.LineSource.ended input) c.run-status.result c.tell.result (view c.args.out.now) (view c.run-status.new.out)
+    c.tell.ensures.status c.run-status.ensures.answers
+
+pub returns-clause-never_fall : goal.returns-clause-never_fall
+returns-clause-never_fall g c = never_fall-notes _ (g.N.Sink.view c.args.notes.now) (g.N.Sink.view c.tell.new.notes) c.tell.ensures.notes.told

@@ -1,0 +1,20 @@
+use Rattle.std.proofs.Common.{◌≡◌, Some, None, refl, subst}
+use Rattle.fw_engine.specs.Engine.{flow_of}
+use Rattle.fw_live.specs.Answered.{HasAnswered}
+use Rattle.fw_live.specs.Asked.{asked_for}
+use Rattle.fw_live.specs.Given.{with_line_given}
+use Rattle.fw_live.proofs.ServingLaws.{serves-one}
+use Rattle.fw_live.proofs.serving.answer_line.Goals as goal
+
+pub returns-clause-answered : goal.returns-clause-answered
+returns-clause-answered g c = λ given.
+    let old = c.args.live.now in
+    let new = c.answer.new.self in
+    let flow = flow_of (g.S.Living.engine_of old.session) in
+    serves-one old.rests flow
+    (record { counts = old.counts; records = g.S.Living.records old.session; At = λ story. g.S.Living.at old.session story × g.S.Living.keeps old.session story })
+    (record { counts = new.counts; records = g.S.Living.records new.session; At = λ story. g.S.Living.at new.session story × g.S.Living.keeps new.session story })
+    (Some c.args.line.now) given (with_line_given (Some c.args.line.now) given) c.answer.new.into.items refl
+    (λ story there relied. subst (λ bytes. HasAnswered old.rests flow story (asked_for flow (Some c.args.line.now)) old.counts new.counts bytes c.answer.new.into.items
+    (λ s. g.S.Living.at new.session s × g.S.Living.keeps new.session s)) c.new-answer.ensures.items
+    (c.in_ok-answer.ensures.answered story there.0 there.1 relied))

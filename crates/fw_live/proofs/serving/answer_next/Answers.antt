@@ -1,0 +1,49 @@
+use Rattle.std.proofs.Common.{◌≡◌, ◌∙◌, Some, None, Ok, sym, ap, subst}
+use Rattle.std.specs.Prelude.{IfOk, IfSome}
+use Rattle.fw_engine.specs.Engine.{flow_of}
+use Rattle.fw_live.specs.Given.{gives_after, with_line_given}
+use Rattle.fw_live.specs.Serving.{GivesAtMostOne, Serves}
+use Rattle.fw_live.proofs.ServingLaws.{gives-one, if-err}
+use Rattle.fw_live.proofs.serving.answer_next.Goals as goal
+
+pub returns-in-Line-clause-answered : goal.returns-in-Line-clause-answered
+returns-in-Line-clause-answered g c =
+    let old = c.args.live.now in
+    let new = c.answer_line.new.live in
+    let given = g.L.LineSource.given in
+    let after = c.next_line.new.input in
+    let gave : given after ≡ with_line_given (Some c.deref.result.now) (given c.args.input.now) =
+    subst (λ n. given after ≡ gives_after (Ok n) c.next_line.new.line.items (given c.args.input.now)) c.in-Line.is c.in_ok-next.ensures.given ∙ ap (λ bytes. with_line_given (Some bytes) (given c.args.input.now)) (sym c.deref.ensures.value) in
+    subst (λ gives. IfOk c.answer_line.result (λ answer. IfSome answer (λ text. Serves old.rests (flow_of (g.S.Living.engine_of old.session))
+    (record { counts = old.counts; records = g.S.Living.records old.session; At = λ story. g.S.Living.at old.session story × g.S.Living.keeps old.session story })
+    (record { counts = new.counts; records = g.S.Living.records new.session; At = λ story. g.S.Living.at new.session story × g.S.Living.keeps new.session story })
+    (given c.args.input.now) gives (λ bytes. text.items ≡ bytes)))) (sym gave) (c.answer_line.ensures.answered (given c.args.input.now))
+
+pub returns-in-Line-clause-unanswered : goal.returns-in-Line-clause-unanswered
+returns-in-Line-clause-unanswered g c =
+    let given = g.L.LineSource.given in
+    let after = c.next_line.new.input in
+    let gave : given after ≡ with_line_given (Some c.deref.result.now) (given c.args.input.now) =
+    subst (λ n. given after ≡ gives_after (Ok n) c.next_line.new.line.items (given c.args.input.now)) c.in-Line.is c.in_ok-next.ensures.given ∙ ap (λ bytes. with_line_given (Some bytes) (given c.args.input.now)) (sym c.deref.ensures.value) in
+    if-err c.answer_line.result (GivesAtMostOne (given c.args.input.now) (given after)) (gives-one (Some c.deref.result.now) (given c.args.input.now) (given after) gave)
+
+pub returns-in-TooLong-clause-answered : goal.returns-in-TooLong-clause-answered
+returns-in-TooLong-clause-answered g c =
+    let old = c.args.live.now in
+    let new = c.answer_long.new.live in
+    let given = g.L.LineSource.given in
+    let after = c.next_line.new.input in
+    let gave : given after ≡ with_line_given (None) (given c.args.input.now) =
+    subst (λ n. given after ≡ gives_after (Ok n) c.next_line.new.line.items (given c.args.input.now)) c.in-TooLong.is c.in_ok-next.ensures.given in
+    subst (λ gives. IfOk c.answer_long.result (λ answer. IfSome answer (λ text. Serves old.rests (flow_of (g.S.Living.engine_of old.session))
+    (record { counts = old.counts; records = g.S.Living.records old.session; At = λ story. g.S.Living.at old.session story × g.S.Living.keeps old.session story })
+    (record { counts = new.counts; records = g.S.Living.records new.session; At = λ story. g.S.Living.at new.session story × g.S.Living.keeps new.session story })
+    (given c.args.input.now) gives (λ bytes. text.items ≡ bytes)))) (sym gave) (c.answer_long.ensures.answered (given c.args.input.now))
+
+pub returns-in-TooLong-clause-unanswered : goal.returns-in-TooLong-clause-unanswered
+returns-in-TooLong-clause-unanswered g c =
+    let given = g.L.LineSource.given in
+    let after = c.next_line.new.input in
+    let gave : given after ≡ with_line_given (None) (given c.args.input.now) =
+    subst (λ n. given after ≡ gives_after (Ok n) c.next_line.new.line.items (given c.args.input.now)) c.in-TooLong.is c.in_ok-next.ensures.given in
+    if-err c.answer_long.result (GivesAtMostOne (given c.args.input.now) (given after)) (gives-one (None) (given c.args.input.now) (given after) gave)

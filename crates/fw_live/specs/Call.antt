@@ -1,0 +1,175 @@
+-- What a call of `falkirk_live` promises.
+use Rattle.std.specs.Prelude.{◌≡◌, ◌⊎◌, ◌↔◌, ◌≤◌, ◌==◌, ℕ, Bool, true, if◌then◌else◌, List, ◌++◌, length, Option, Some, None, option_map}
+use Rattle.fw_outside.specs.declared.fault.OutFault.TheVariants as out
+use Rattle.fw_outside.specs.Outside.{StoreView, SinkView, one_more}
+use Rattle.fw_lines.specs.declared.refusal.Refusal.{Refusal}
+use Rattle.fw_flow.specs.Dataflow.{Dataflow}
+use Rattle.fw_session.specs.Story.{Story, IsStory, opening}
+use Rattle.fw_command.specs.declared.reading.JobFault.{JobFault}
+use Rattle.fw_command.specs.declared.reading.JobFault.TheVariants as job
+use Rattle.fw_command.specs.Texts.{HasFlow, IsFlowRefused}
+use Rattle.fw_command.specs.Writing.{IsWritten, IsCutOff, WritesText}
+use Rattle.fw_run.specs.declared.status.Status.{Status}
+use Rattle.fw_run.specs.declared.status.Status.TheVariants.{Done, BadWords, Refused, ReadFault, WriteFault, StoreFault, Damaged, NoMemory}
+use Rattle.fw_run.specs.Status.{TellsOfRoot}
+use Rattle.fw_live.specs.declared.counts.LineCounts.{LineCounts}
+use Rattle.fw_live.specs.declared.fault.ServeFault.{ServeFault}
+use Rattle.fw_live.specs.declared.fault.ServeFault.TheVariants.{Read, Write, Store}
+use Rattle.fw_live.specs.declared.fault.ServeFault.TheVariants as serve
+use Rattle.fw_live.specs.Answers.{Answer}
+use Rattle.fw_live.specs.Asked.{LineIn}
+use Rattle.fw_live.specs.Life.{AreAnswers, answers_text, counts_behind, counts_line, no_counts}
+use Rattle.fw_live.specs.Serving.{AreLinesReliedOn}
+use Rattle.fw_live.specs.Words.{LiveCommand}
+
+-- ---- how it ends
+
+-- the status by how often the store failed, and by the first record that was damaged
+abbrev pub status_of : Option ℕ → ℕ → Status
+status_of (Some id) faults = Damaged id
+status_of None faults = if faults == 0 then Done else StoreFault
+
+-- the status of a session that answered all lines, by what was counted
+abbrev pub status_by : LineCounts → Status
+status_by counts = status_of counts.damaged counts.faults
+
+-- a call that ends so answered all lines that came in: all went well; the store failed in some; or a record was damaged
+abbrev pub EndsWhole : Status → Type 0
+EndsWhole Done = Unit {0}
+EndsWhole StoreFault = Unit {0}
+EndsWhole (Damaged id) = Unit {0}
+EndsWhole status = ⊥
+
+-- one that ends so may have ended before: what is outside failed, or memory was refused
+abbrev pub EndsBefore : Status → Type 0
+EndsBefore ReadFault = Unit {0}
+EndsBefore WriteFault = Unit {0}
+EndsBefore NoMemory = Unit {0}
+EndsBefore status = ⊥
+
+-- one that ends so did not begin: its words are bad, or the text of its flow is refused
+abbrev pub EndsUnbegun : Status → Type 0
+EndsUnbegun BadWords = Unit {0}
+EndsUnbegun (Refused refusal) = Unit {0}
+EndsUnbegun status = ⊥
+
+-- the status of a call whose flow was not read
+abbrev pub unread_status : JobFault → Status
+unread_status job.Failed = ReadFault
+unread_status (job.Refused refusal) = Refused refusal
+unread_status job.NoMemory = NoMemory
+
+-- the status of a call that was stopped
+abbrev pub stopped_status : ServeFault → Status
+stopped_status Read = ReadFault
+stopped_status Write = WriteFault
+stopped_status Store = StoreFault
+stopped_status serve.NoMemory = NoMemory
+
+-- ---- what is printed
+
+-- The text is that of the answers to these lines, from the opening of a session on.
+pub record IsAnswersText (rests : Bool) (flow : Dataflow) (lines : List LineIn) (printed : List ℕ) : Type 0 where
+  pub answers : List Answer
+  pub last : Story
+  pub are : AreAnswers rests flow (opening flow) lines answers last
+  pub text : printed ≡ answers_text flow no_counts answers
+
+-- The text is that, and behind it the line of what was counted, which the status tells too.
+pub record IsLiveText (rests : Bool) (flow : Dataflow) (lines : List LineIn) (status : Status) (printed : List ℕ) : Type 0 where
+  pub answers : List Answer
+  pub last : Story
+  pub are : AreAnswers rests flow (opening flow) lines answers last
+  pub of_story : IsStory flow last
+  pub text : printed ≡ answers_text flow no_counts answers ++ counts_line (counts_behind answers no_counts)
+  pub told : status ≡ status_by (counts_behind answers no_counts)
+
+-- the steps of lines can be relied on over any store of a kind: it always tells its records, or no line asks for a recovery
+abbrev pub AreReliedOnOver : {K : Type 0} → (K → StoreView) → Dataflow → List LineIn → Type 0
+AreReliedOnOver {K} view flow lines = (store : K) → AreLinesReliedOn (view store).records flow lines
+
+-- These lines came in, and what is printed of them was written, where their steps can be relied on.
+pub record AnswersAll {K : Type 0} (view : K → StoreView) (rests : Bool) (flow : Dataflow) (given gives : Option (List LineIn)) (status : Status)
+    (before after : SinkView) : Type 0 where
+  pub lines : List LineIn
+  pub gave : gives ≡ option_map (λ earlier. earlier ++ lines) given
+  pub printed : AreReliedOnOver view flow lines
+      → WritesText (IsLiveText rests flow lines status) (λ text. IsWritten text before after)
+
+-- how much of it was written where the call ends so before
+abbrev pub IsPutAt : Status → SinkView → SinkView → List ℕ → Type 0
+IsPutAt ReadFault before after text = IsWritten text before after
+IsPutAt WriteFault before after text = IsCutOff text out.Failed before after
+IsPutAt NoMemory before after text = IsWritten text before after ⊎ IsCutOff text out.NoMemory before after
+IsPutAt status before after text = ⊥
+
+-- the line was cut off where a call ends so
+abbrev pub IsLineCutAt : Status → List ℕ → SinkView → SinkView → Type 0
+IsLineCutAt WriteFault line before after = IsCutOff line out.Failed before after
+IsLineCutAt NoMemory line before after = IsCutOff line out.NoMemory before after
+IsLineCutAt status line before after = ⊥
+
+-- These lines came in, and perhaps one more; and of what is printed of them this much was written.
+pub record AnswersPart {K : Type 0} (view : K → StoreView) (rests : Bool) (flow : Dataflow) (given gives : Option (List LineIn)) (status : Status)
+    (before after : SinkView) : Type 0 where
+  pub lines : List LineIn
+  pub unanswered : List LineIn
+  pub one : length unanswered ≤ 1
+  pub gave : gives ≡ option_map (λ earlier. earlier ++ (lines ++ unanswered)) given
+  pub printed : AreReliedOnOver view flow lines
+      → WritesText (λ text. IsAnswersText rests flow lines text ⊎ ((end : Status) × IsLiveText rests flow lines end text)) (IsPutAt status before after)
+
+-- no line came in, and nothing was written
+abbrev pub StaysQuiet : Option (List LineIn) → Option (List LineIn) → SinkView → SinkView → Type 0
+StaysQuiet given gives before after = (gives ≡ given) × (after ≡ before)
+
+-- What is true of a session over a flow that ended so: each line was answered, up to the end of the lines; or it ended before.
+pub record FlowAnswers {K : Type 0} (view : K → StoreView) (rests : Bool) (flow : Dataflow) (given gives : Option (List LineIn)) (ended : Bool)
+    (status : Status) (before after : SinkView) : Type 0 where
+  pub whole : EndsWhole status → AnswersAll view rests flow given gives status before after × (ended ≡ true)
+  pub part : EndsBefore status → StaysQuiet given gives before after ⊎ AnswersPart view rests flow given gives status before after
+  pub begun : EndsUnbegun status → ⊥
+  pub no_root : TellsOfRoot status → ⊥
+
+-- ---- a call
+
+-- the words are a session's command, and the text of its flow is refused so
+pub record HasFlowRefused (told : Option (List ℕ → Option (List ℕ))) (command : Option LiveCommand) (refusal : Refusal) : Type 0 where
+  pub live : LiveCommand
+  pub words : command ≡ Some live
+  pub refused : IsFlowRefused told live.flow refusal
+
+-- the words are a session's command, whose text declares a dataflow, and this is true of it
+pub record HasFlowSo (told : Option (List ℕ → Option (List ℕ))) (command : Option LiveCommand) (IsSo : Bool → Dataflow → Type 0) : Type 0 where
+  pub live : LiveCommand
+  pub words : command ≡ Some live
+  pub flow : Dataflow
+  pub declared : HasFlow told live.flow flow
+  pub so : IsSo live.rests flow
+
+-- What is true of a call with this status.
+pub record LiveAnswers {K : Type 0} (view : K → StoreView) (told : Option (List ℕ → Option (List ℕ))) (command : Option LiveCommand)
+    (given gives : Option (List LineIn)) (ended : Bool) (status : Status) (before after : SinkView) : Type 0 where
+  -- 0, 8, 9: the lines that came in, up to their end, were answered, each once and in order; the answers and the line of what was
+  -- counted were written. 8: the store failed in some line. 9: a recovery read bytes that spell no record, first those under this id.
+  pub whole : EndsWhole status
+      → HasFlowSo told command (λ rests flow. AnswersAll view rests flow given gives status before after) × (ended ≡ true)
+  -- 2: exactly where the words are no such command.
+  pub bad_words : (status ≡ BadWords) ↔ (command ≡ None)
+  -- 3: the text of the flow breaks this rule first, on this line.
+  pub refused : (refusal : Refusal) → status ≡ Refused refusal → HasFlowRefused told command refusal
+  -- 6: nothing was done, as the folder failed; or the source of lines failed, and what came before was answered, and the answers written.
+  -- 7: the output failed, and first bytes of what is printed were written. 10: at any time; nothing was written, or first bytes, or all.
+  pub part : EndsBefore status → StaysQuiet given gives before after
+      ⊎ HasFlowSo told command (λ rests flow. AnswersPart view rests flow given gives status before after)
+  -- 2, 3: no line came in, and nothing was written.
+  pub unbegun : EndsUnbegun status → StaysQuiet given gives before after
+  -- 9 `damaged root` and 11: never.
+  pub no_root : TellsOfRoot status → ⊥
+
+-- The folder keeps its texts. It was not asked where the words are no such command, and else once.
+pub record KeepsFlow {F : Type 0} (texts : F → Option (List ℕ → Option (List ℕ))) (fetch_count : F → ℕ) (command : Option LiveCommand)
+    (before after : F) : Type 0 where
+  pub texts_stay : texts after ≡ texts before
+  pub no_words : command ≡ None → after ≡ before
+  pub asked : (live : LiveCommand) → command ≡ Some live → fetch_count after ≡ one_more (fetch_count before)

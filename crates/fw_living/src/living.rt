@@ -1,0 +1,109 @@
+//! A session over which lines can be answered.
+ghost use Rattle.std.specs.Prelude.{◌≡◌, ◌↔◌, ◌⊎◌, ◌-◌, ◌^◌, ◌≤◌, false, Bool, Option, IfOk, IsErrOf, IsSome, OnOk};
+ghost use Rattle.fw_bag.specs.Keyed.{sorted_recs};
+ghost use Rattle.fw_keep.specs.Stored.{Records};
+ghost use Rattle.fw_engine.specs.declared.engine.Engine.{Engine as EngineOf};
+ghost use Rattle.fw_engine.specs.Engine.{flow_of, StandsFor};
+ghost use Rattle.fw_session.specs.Session.{StepGoesOn};
+ghost use Rattle.fw_session.specs.Story.{Story, IsStory, system_now, after_feed, after_close};
+ghost use Rattle.fw_living.specs.Life.{came_in_story, AutoGoesOn};
+
+use crate::LifeFault;
+use fw_bag::Rec;
+use fw_engine::Engine;
+use fw_flow::{NodeId, Step};
+use fw_running::{EngineFault, Stepped};
+
+/// A session: an engine with its store, which takes batches while it runs. What was done in it is a story; what it keeps of that is
+/// there at a next start too, if there is one.
+pub trait Living {
+    /// Whether it is kept beyond its end: only then a store may fail in what keeps it.
+    ghost lasts: { Bool };
+
+    /// Its engine.
+    ghost engine_of: { Self → EngineOf };
+
+    /// What its store tells of its records, if it does.
+    ghost records: { Self → Option Records };
+
+    /// It is at this story: this is what was done in it.
+    ghost at: { Self → Story → Type 0 };
+
+    /// It keeps this story: a start behind its end goes on from there.
+    ghost keeps: { Self → Story → Type 0 };
+
+    /// Its engine, to be looked at.
+    fn engine(&self) -> &Engine
+        ensures engine { result.now ≡ engine_of self.now }
+        ensures of_story { (story : Story) → at self.now story → IsStory (flow_of result.now) story }
+        ensures stands { (story : Story) → at self.now story
+            → StandsFor (system_now (flow_of result.now) story) result.now (records self.now) story.now.state };
+
+    /// Whether the node is a source that is open. Past the last node none is.
+    fn is_open(&self, source: NodeId) -> bool
+        ensures { (story : Story) → at self.now story → result ≡ story.now.opened source };
+
+    /// How many batches came to the node, with the empty one with which it was closed.
+    fn came(&self, source: NodeId) -> u64
+        ensures { (story : Story) → at self.now story → result ≡ came_in_story (flow_of (engine_of self.now)) story source };
+
+    /// The source is fed a batch of these recs, in any order: it is the one of this epoch.
+    ///
+    /// # Errors
+    ///
+    /// `NotFed` where the source is not open, or 2^20 - 1 batches came to it. `StoreFault` where the store fails that has to keep the
+    /// batch. `NoMemory` where memory is refused, now or earlier.
+    fn feed(&mut self, source: NodeId, recs: &[Rec]) -> Result<u64, LifeFault>
+        ensures fed { (story : Story) → at self.old story
+            → IfOk result (λ epoch. (epoch ≡ came_in_story (flow_of (engine_of self.old)) story source)
+            × at self.new (after_feed source (sorted_recs recs.now) story)) }
+        ensures not_fed { (story : Story) → at self.old story → (IsErrOf result LifeFault.NotFed
+            ↔ (story.now.opened source ≡ false) ⊎ (2 ^ 20 - 1 ≤ came_in_story (flow_of (engine_of self.old)) story source)) }
+        ensures flow { flow_of (engine_of self.new) ≡ flow_of (engine_of self.old) }
+        ensures store { lasts ≡ false → IsErrOf result LifeFault.StoreFault → ⊥ }
+        ensures told_before { IsSome (records self.new) → IsSome (records self.old) };
+
+    /// Nothing more comes to the source: the batch of this epoch, which is empty, is its last.
+    ///
+    /// # Errors
+    ///
+    /// `NotFed` where the source is not open; the others as by `feed`.
+    fn close(&mut self, source: NodeId) -> Result<u64, LifeFault>
+        ensures closed { (story : Story) → at self.old story
+            → IfOk result (λ epoch. (epoch ≡ came_in_story (flow_of (engine_of self.old)) story source)
+            × at self.new (after_close source story)) }
+        ensures not_fed { (story : Story) → at self.old story → (IsErrOf result LifeFault.NotFed ↔ story.now.opened source ≡ false) }
+        ensures flow { flow_of (engine_of self.new) ≡ flow_of (engine_of self.old) }
+        ensures store { lasts ≡ false → IsErrOf result LifeFault.StoreFault → ⊥ }
+        ensures told_before { IsSome (records self.new) → IsSome (records self.old) };
+
+    /// Takes a step, and tells what it shows: Idle where it is not enabled, and where it is the injection of the last batch of a source
+    /// that is open.
+    ///
+    /// # Errors
+    ///
+    /// `StoreFault` where the store fails: it is where it was, but behind a collection. `Damaged` where a recovery reads bytes that spell
+    /// no record: it is where it was. `NoMemory` where memory is refused, now or earlier.
+    fn step(&mut self, step: &Step) -> Result<Stepped, EngineFault>
+        ensures goes_on { StepGoesOn (flow_of (engine_of self.old)) step.now result (records self.new) (at self.old) (at self.new) }
+        ensures flow { flow_of (engine_of self.new) ≡ flow_of (engine_of self.old) }
+        ensures told_before { IsSome (records self.new) → IsSome (records self.old) };
+
+    /// Takes the first step that is enabled, in the order of `auto`, where no source that is open injects its last batch. The errors are
+    /// those of `step`; no record is damaged.
+    fn auto_step(&mut self) -> Result<Stepped, EngineFault>
+        ensures goes_on { AutoGoesOn (flow_of (engine_of self.old)) result (at self.old) (at self.new) }
+        ensures flow { flow_of (engine_of self.new) ≡ flow_of (engine_of self.old) }
+        ensures told_before { IsSome (records self.new) → IsSome (records self.old) };
+
+    /// Keeps what was done, at the end of a line, before its answer is told; these are the lines of what its steps showed.
+    ///
+    /// # Errors
+    ///
+    /// `StoreFault` where the store fails. `NoMemory` where memory is refused, now or earlier.
+    fn keep_line(&mut self, lines: &[u8]) -> Result<(), LifeFault>
+        ensures kept { (story : Story) → at self.old story → OnOk result (at self.new story × keeps self.new story) }
+        ensures flow { flow_of (engine_of self.new) ≡ flow_of (engine_of self.old) }
+        ensures store { lasts ≡ false → IsErrOf result LifeFault.StoreFault → ⊥ }
+        ensures told_before { IsSome (records self.new) → IsSome (records self.old) };
+}

@@ -11,9 +11,10 @@ use Rattle.std.specs.Cmp.Lexicographic.{pointwise_decides}
 use Rattle.std.specs.Ordering.{nat_cmp, eq_by_cmp}
 use Rattle.std.specs.FinMap.{get, insert, remove, empty, entries, keys, get-insert, get-remove, contains_key-keys, len-entries, len-empty}
 use Rattle.sha2.specs.Sha256.{sha256}
+use Rattle.fw_heard.specs.Note.{Note, note_of}
 use Rattle.fw_outside.specs.Outside.{StayIfTold}
 use Rattle.fw_disk.specs.RunLines.{digests_of, digests_under, are_any, MayStand}
-use Rattle.fw_disk.specs.Told.{Held, Note, note_of, id_of, noted_under, digests_held, agrees_at, are_found, is_collision, told_when_opened, told_when_given, told_by, digests_in, knows, HasDigestsOf, IsClaimFor}
+use Rattle.fw_disk.specs.Told.{Held, id_of, noted_under, digests_held, agrees_at, are_found, is_collision, told_when_opened, told_when_given, told_by, digests_in, knows, HasDigestsOf, IsClaimFor}
 use Rattle.fw_disk.specs.declared.claim.Claim.{Claim}
 use Rattle.fw_disk.specs.declared.claim.Wanted.{Wanted}
 use Rattle.fw_disk.specs.declared.claim.Wanted.TheVariants.{Empty, AsLeft}
@@ -38,7 +39,7 @@ if_some (Some x) h = h x refl
 same_inside : {x y : Held} → ◌≡◌ {A = Option Held} (Some x) (Some y) → x ≡ y
 same_inside {x} e = ap (λ (o : Option Held). unwrap_or o x) e
 
-of_map : (f : Held → Held) (o : Option Held) (held : Held) → option_map f o ≡ Some held → (before : Held) × (o ≡ Some before) × (f before ≡ held)
+pub of_map : (f : Held → Held) (o : Option Held) (held : Held) → option_map f o ≡ Some held → (before : Held) × (o ≡ Some before) × (f before ≡ held)
 of_map f None held e = absurd (cc)
 of_map f (Some before) held e = (before, refl, same_inside e)
 
@@ -55,6 +56,10 @@ told_gave (Some f) notes id bytes = refl
 pub told_removed : (first : Option Held) (notes : List Note) (id : ℕ) → told_by first (note_of (2 ∷ id ∷ []) [] ∷ notes) ≡ option_map (λ held. remove held id) (told_by first notes)
 told_removed None notes id = refl
 told_removed (Some f) notes id = refl
+
+pub told_not_removed : (first : Option Held) (notes : List Note) (id : ℕ) → told_by first (note_of (5 ∷ id ∷ []) [] ∷ notes) ≡ told_by first notes
+told_not_removed None notes id = refl
+told_not_removed (Some f) notes id = refl
 
 -- ---- a put and a removal
 
@@ -98,7 +103,7 @@ same_kept first notes before after wanted known same h held e = (known, λ q. sa
 
 -- ---- bytes that were given
 
-given_from : (id : ℕ) (bytes : List ℕ) (o : Option Held) (held : Held) → told_when_given id bytes o ≡ Some held → (o ≡ Some held) × (is_collision bytes (get held id) ≡ false)
+pub given_from : (id : ℕ) (bytes : List ℕ) (o : Option Held) (held : Held) → told_when_given id bytes o ≡ Some held → (o ≡ Some held) × (is_collision bytes (get held id) ≡ false)
 given_from id bytes None held e = absurd (cc)
 given_from id bytes (Some h) held e = by (is_collision bytes (get h id)) refl e
   where
@@ -213,7 +218,7 @@ found_held found held e q = by (list_any (eq_by_cmp nat_cmp q) (map id_of found)
     by false x true y = agree found held q (any_passes (agrees_at found held) q (keys held) all.1 y)
     by false x false y = none_noted found q x ∙ none_held (get held q) (contains_key-keys held q ∙ y)
 
-opened_from : (f : Held) (found : List Note) (held : Held) → told_when_opened f found ≡ Some held → (are_found found f ≡ true) × (f ≡ held)
+pub opened_from : (f : Held) (found : List Note) (held : Held) → told_when_opened f found ≡ Some held → (are_found found f ≡ true) × (f ≡ held)
 opened_from f found held e = by (are_found found f) refl e
   where
     by : (b : Bool) → are_found found f ≡ b → ◌≡◌ {A = Option Held} (cond b (Some f) None) (Some held) → (are_found found f ≡ true) × (f ≡ held)

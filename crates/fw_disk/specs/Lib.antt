@@ -1,4 +1,7 @@
 pub mod Contents
+pub mod FolderCalls
 pub mod RunLines
 pub mod Paths
+pub mod PowerLoss
+pub mod Survival
 pub mod Told

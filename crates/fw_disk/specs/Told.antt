@@ -1,5 +1,5 @@
 -- What a store on disk tells of its records, by what became of its calls.
-use Rattle.std.specs.Prelude.{◌≡◌, ℕ, zero, suc, ◌==◌, Bool, not, ◌&&◌, if◌then◌else◌, List, [], ◌∷◌, map, Option, Some, None, Vec, option_map, slice_index, ⊤}
+use Rattle.std.specs.Prelude.{◌≡◌, ℕ, zero, suc, ◌==◌, Bool, not, ◌&&◌, ◌||◌, if◌then◌else◌, List, [], ◌∷◌, map, Option, Some, None, Vec, option_map, slice_index, ⊤}
 use Rattle.std.specs.Str.{bytes_eq}
 use Rattle.std.specs.List.{list_all}
 use Rattle.std.specs.Cmp.Lexicographic.{pointwise}
@@ -8,6 +8,7 @@ use Rattle.std.specs.Ordering.{nat_cmp}
 use Rattle.std.specs.FinMap as finmap
 use Rattle.std.specs.declared.alloc.Global.{Global}
 use Rattle.sha2.specs.Sha256.{sha256}
+use Rattle.fw_heard.specs.Note.{Note, became_of}
 use Rattle.fw_disk.specs.RunLines.{digests_under}
 use Rattle.fw_disk.specs.declared.claim.Claim.{Claim}
 use Rattle.fw_disk.specs.declared.claim.Wanted.{Wanted}
@@ -17,16 +18,7 @@ use Rattle.fw_disk.specs.declared.claim.Wanted.TheVariants.{Empty, AsLeft}
 abbrev pub Held : Type 0
 Held = finmap.FinMap nat_cmp (List ℕ)
 
--- What is noted: numbers and bytes. The first number says what became of a call, the second is the id that it was for.
-abbrev pub Note : Type 0
-Note = List ℕ × List ℕ
-
-abbrev pub note_of : List ℕ → List ℕ → Note
-note_of numbers bytes = (numbers, bytes)
-
-abbrev pub became_of : Note → ℕ
-became_of note = slice_index note.0 0
-
+-- the second number of a note is the id that the call was for
 abbrev pub id_of : Note → ℕ
 id_of note = slice_index note.0 1
 
@@ -62,14 +54,15 @@ abbrev pub told_when_given : ℕ → List ℕ → Option Held → Option Held
 told_when_given id bytes None = None
 told_when_given id bytes (Some held) = if is_collision bytes (finmap.get held id) then None else Some held
 
--- What is told after a note, by what was told before: bytes were put under an id, or given, or the record was removed. While records are
--- being found nothing is told.
+-- What is told after a note, by what was told before: bytes were put under an id, or given, the record was removed, or that was refused.
+-- While records are being found nothing is told.
 abbrev pub after_noted : Held → ℕ → ℕ → List ℕ → List Note → Option Held → Option Held
 after_noted first zero id bytes earlier told = option_map (λ held. finmap.insert held id bytes) told
 after_noted first (suc zero) id bytes earlier told = told_when_given id bytes told
 after_noted first (suc (suc zero)) id bytes earlier told = option_map (λ held. finmap.remove held id) told
 after_noted first (suc (suc (suc zero))) id bytes earlier told = None
-after_noted first (suc (suc (suc (suc more)))) id bytes earlier told = told_when_opened first earlier
+after_noted first (suc (suc (suc (suc zero)))) id bytes earlier told = told_when_opened first earlier
+after_noted first (suc (suc (suc (suc (suc more))))) id bytes earlier told = told
 
 -- what is told by these notes, the newest first, of a folder that held these records
 abbrev pub told_from : Held → List Note → Option Held
@@ -86,11 +79,26 @@ abbrev pub given_after : ℕ → ℕ → List ℕ → Option (ℕ × List ℕ) �
 given_after zero id bytes last = last
 given_after (suc zero) id bytes last = Some (id, bytes)
 given_after (suc (suc zero)) id bytes last = last
-given_after (suc (suc (suc more))) id bytes last = None
+given_after (suc (suc (suc zero))) id bytes last = None
+given_after (suc (suc (suc (suc zero)))) id bytes last = None
+given_after (suc (suc (suc (suc (suc more))))) id bytes last = last
 
 abbrev pub last_given : List Note → Option (ℕ × List ℕ)
 last_given [] = None
 last_given (note ∷ earlier) = given_after (became_of note) (id_of note) note.1 (last_given earlier)
+
+-- whether a removal of the record under an id was refused since the record was put, so that its file may be gone all the same
+abbrev pub doubt_after : ℕ → Bool → Bool → Bool
+doubt_after zero at_id before = if at_id then Bool.false else before
+doubt_after (suc zero) at_id before = before
+doubt_after (suc (suc zero)) at_id before = before
+doubt_after (suc (suc (suc zero))) at_id before = before
+doubt_after (suc (suc (suc (suc zero)))) at_id before = before
+doubt_after (suc (suc (suc (suc (suc more))))) at_id before = at_id || before
+
+abbrev pub is_doubtful : List Note → ℕ → Bool
+is_doubtful [] id = Bool.false
+is_doubtful (note ∷ earlier) id = doubt_after (became_of note) (id_of note == id) (is_doubtful earlier id)
 
 -- the digests that stand under each id are those that were noted
 abbrev pub HasDigestsNoted : List Note → BTreeMap ℕ (Vec (List ℕ) Global) → Type 0

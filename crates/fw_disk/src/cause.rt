@@ -107,6 +107,22 @@ impl DiskRefusal {
         }
     }
 
+    /// Whether the file system has no second names for files.
+    pub(crate) fn is_of_second_names(&self) -> bool {
+        match self {
+            DiskRefusal::Failed(
+                DiskCause {
+                    trouble: Trouble::System(error),
+                    ..
+                },
+            ) => matches!(
+                error.kind(),
+                ErrorKind::PermissionDenied | ErrorKind::Unsupported
+            ),
+            _ => false,
+        }
+    }
+
     /// The cause of a refusal by a call at a place that does not answer want of memory by itself.
     pub(crate) fn cause(self, place: DiskPlace) -> DiskCause {
         match self {

@@ -1,16 +1,20 @@
 //! The folder as one run has it.
 ghost use Rattle.std.specs.Prelude.{◌≡◌, ℕ, [], ◌∷◌, None, IfOk, OnOk, OnErr};
 ghost use Rattle.sha2.specs.Sha256.{sha256};
+ghost use Rattle.fw_disk.specs.FolderCalls.{calls_of, AreOfRun};
+ghost use Rattle.fw_disk.specs.PowerLoss.{Disk, AtEachMoment};
 ghost use Rattle.fw_disk.specs.RunLines.{digests_of, digests_under, are_any, MayStand};
+ghost use Rattle.fw_disk.specs.Survival.{IsOld, IsOldOrNew, IsOldOrGone, IsOnDisk, IsGone};
 ghost use Rattle.fw_disk.specs.Told.{HasDigestsNoted, IsClaimFor};
 
 use crate::cause::{DiskPlace, DiskRefusal, Trouble};
 use crate::contents::record_in;
 use crate::folder::{Folder, place_named};
-use crate::heard::{FOUND, Heard};
+use crate::heard::FOUND;
 use crate::lines::{Digest, RunLines, line_of, lines_in};
+use fw_heard::Heard;
 use sha2::{Digest as _, Sha256};
-use std::alloc::Global;
+use std::alloc::{AllocError, Global};
 use std::fs::File;
 use std::rt::Files;
 
@@ -34,10 +38,11 @@ pub(crate) enum Wanted {
 
 /// A claim on such a folder.
 pub(crate) fn claim_folder<R: Files<File = File>>(
-    folder: &Folder<'_, R>,
+    folder: &mut Folder<'_, R>,
     wanted: Wanted,
 ) -> Result<Claim, DiskRefusal>
-    ensures { IfOk result (IsClaimFor wanted) }
+    ensures claim { IfOk result (IsClaimFor wanted) }
+    ensures any_moment { (start : Disk) → AtEachMoment (IsOld start (calls_of folder.old.calls)) (calls_of folder.old.calls) (calls_of folder.new.calls) }
 {
     match wanted {
         Wanted::Empty => claim_empty(folder),
@@ -46,8 +51,9 @@ pub(crate) fn claim_folder<R: Files<File = File>>(
 }
 
 // A claim on a folder that holds no record.
-fn claim_empty<R: Files<File = File>>(folder: &Folder<'_, R>) -> Result<Claim, DiskRefusal>
-    ensures { IfOk result (λ claim. (id : ℕ) → digests_of claim.lines.told id ≡ None) }
+fn claim_empty<R: Files<File = File>>(folder: &mut Folder<'_, R>) -> Result<Claim, DiskRefusal>
+    ensures none { IfOk result (λ claim. (id : ℕ) → digests_of claim.lines.told id ≡ None) }
+    ensures of_run { AreOfRun (calls_of folder.old.calls) (calls_of folder.new.calls) }
 {
     let locked = locked_empty(folder)?;
     write_run(folder, &[])?;
@@ -60,18 +66,18 @@ fn claim_empty<R: Files<File = File>>(folder: &Folder<'_, R>) -> Result<Claim, D
 
 /// A claim on a folder as an earlier run left it. Each record that stands there is noted, with its digest.
 pub(crate) fn claim_left<R: Files<File = File>>(
-    folder: &Folder<'_, R>,
+    folder: &mut Folder<'_, R>,
     heard: &mut Heard,
 ) -> Result<Claim, DiskRefusal>
     requires { heard.old.notes ≡ [] }
-    ensures { IfOk result (λ claim. HasDigestsNoted heard.new.notes claim.lines.told) }
+    ensures noted { IfOk result (λ claim. HasDigestsNoted heard.new.notes claim.lines.told) }
+    ensures any_moment { (start : Disk) → AtEachMoment (IsOld start (calls_of folder.old.calls)) (calls_of folder.old.calls) (calls_of folder.new.calls) }
 {
     let locked = folder.lock()?;
     let text = run_text(folder)?;
-    let lines = found(folder, &lines_in(folder.alloc(), &text)?, heard)?;
-    if text.is_empty() {
-        write_run(folder, &[])?;
-    }
+    let told = lines_in(folder.alloc(), &text)?;
+    let lines = found(folder, &told, heard)?;
+    see_run(folder, &text)?;
     Ok(Claim {
         locked,
         lines,
@@ -81,12 +87,13 @@ pub(crate) fn claim_left<R: Files<File = File>>(
 
 // The records that stand in a folder whose file `run` has these lines, each with its digest, which is noted.
 fn found<R: Files>(
-    folder: &Folder<'_, R>,
+    folder: &mut Folder<'_, R>,
     lines: &RunLines,
     heard: &mut Heard,
 ) -> Result<RunLines, DiskRefusal>
     requires { heard.old.notes ≡ [] }
-    ensures { IfOk result (λ found. HasDigestsNoted heard.new.notes found.told) }
+    ensures noted { IfOk result (λ found. HasDigestsNoted heard.new.notes found.told) }
+    ensures any_moment { (start : Disk) → AtEachMoment (IsOld start (calls_of folder.old.calls)) (calls_of folder.old.calls) (calls_of folder.new.calls) }
 {
     let mut found = RunLines::new(folder.alloc());
     for name in &folder.record_names()? {
@@ -99,21 +106,21 @@ fn found<R: Files>(
 // Adds the record that stands in the file of this name, if one does. A file without bytes that has the name of a record was to get
 // one and did not: it goes.
 fn add_found<R: Files>(
-    folder: &Folder<'_, R>,
+    folder: &mut Folder<'_, R>,
     lines: &RunLines,
     name: &str,
     found: &mut RunLines,
     heard: &mut Heard,
 ) -> Result<(), DiskRefusal>
     requires { HasDigestsNoted heard.old.notes found.old.told }
-    ensures { OnOk result (HasDigestsNoted heard.new.notes found.new.told) }
+    ensures noted { OnOk result (HasDigestsNoted heard.new.notes found.new.told) }
+    ensures any_moment { (start : Disk) → AtEachMoment (IsOld start (calls_of folder.old.calls)) (calls_of folder.old.calls) (calls_of folder.new.calls) }
 {
-    let place = place_named(folder.alloc(), name)?;
-    let DiskPlace::Record(id) = place else {
+    let DiskPlace::Record(id) = place_named(folder.alloc(), name)? else {
         return Ok(());
     };
-    if folder.is_empty(place)? {
-        return folder.remove(place);
+    if folder.remove_empty(id)? {
+        return Ok(());
     }
     if let Some(digest) = digest_found(folder, lines, id)? {
         found.add(id, digest)?;
@@ -159,18 +166,34 @@ pub(crate) fn locked_empty<R: Files<File = File>>(
     }
 }
 
-// Writes the file `run` anew.
-fn write_run<R: Files>(folder: &Folder<'_, R>, text: &[u8]) -> Result<(), DiskRefusal> {
-    let _ = folder.remove(DiskPlace::RunBeside);
-    let written = write_beside(folder, text);
-    if written.is_err() {
-        let _ = folder.remove(DiskPlace::RunBeside);
+// Sees to it that the file `run`, which has this text, is there.
+fn see_run<R: Files>(folder: &mut Folder<'_, R>, text: &[u8]) -> Result<(), DiskRefusal>
+    ensures { AreOfRun (calls_of folder.old.calls) (calls_of folder.new.calls) }
+{
+    if text.is_empty() {
+        return write_run(folder, &[]);
     }
-    written
+    Ok(())
+}
+
+// Writes the file `run` anew.
+fn write_run<R: Files>(folder: &mut Folder<'_, R>, text: &[u8]) -> Result<(), DiskRefusal>
+    ensures { AreOfRun (calls_of folder.old.calls) (calls_of folder.new.calls) }
+{
+    let _ = folder.remove(DiskPlace::RunBeside);
+    match write_beside(folder, text) {
+        Ok(()) => Ok(()),
+        Err(refusal) => {
+            let _ = folder.remove(DiskPlace::RunBeside);
+            Err(refusal)
+        }
+    }
 }
 
 // Writes the file beside `run`, and gives it this name.
-fn write_beside<R: Files>(folder: &Folder<'_, R>, text: &[u8]) -> Result<(), DiskRefusal> {
+fn write_beside<R: Files>(folder: &mut Folder<'_, R>, text: &[u8]) -> Result<(), DiskRefusal>
+    ensures { AreOfRun (calls_of folder.old.calls) (calls_of folder.new.calls) }
+{
     folder.make(DiskPlace::RunBeside, text)?;
     folder.rename(DiskPlace::RunBeside, DiskPlace::Run)?;
     folder.flush()
@@ -193,7 +216,7 @@ impl Claim {
     /// its file can't be removed again.
     pub(crate) fn put<R: Files>(
         &mut self,
-        folder: &Folder<'_, R>,
+        folder: &mut Folder<'_, R>,
         id: u64,
         digest: Digest,
         contents: &[u8],
@@ -201,10 +224,10 @@ impl Claim {
         ensures stands { OnOk result (digests_under self.new.lines.told id ≡ digest ∷ []) }
         ensures refused { OnErr result (digests_under self.new.lines.told id ≡ digests_under self.old.lines.told id) }
         ensures others { (other : ℕ) → (other ≡ id → ⊥) → digests_under self.new.lines.told other ≡ digests_under self.old.lines.told other }
+        ensures any_moment { (start : Disk) → AtEachMoment (IsOldOrNew id contents.now start (calls_of folder.old.calls)) (calls_of folder.old.calls) (calls_of folder.new.calls) }
+        ensures on_disk { OnOk result ((start : Disk) → IsOnDisk id contents.now start (calls_of folder.new.calls)) }
     {
-        if self.lines.are_mostly_gone() {
-            self.write_anew(folder)?;
-        }
+        self.write_anew(folder)?;
         let has_line = self.lines.has(id);
         self.lines.add(id, digest)?;
         let put = self.tell_and_name(folder, id, &digest, has_line, contents);
@@ -216,10 +239,14 @@ impl Claim {
         put
     }
 
-    // Writes the file `run` anew, without the lines of ids that are gone.
-    fn write_anew<R: Files>(&mut self, folder: &Folder<'_, R>) -> Result<(), DiskRefusal>
-        ensures { (id : ℕ) → digests_under self.new.lines.told id ≡ digests_under self.old.lines.told id }
+    // Writes the file `run` anew, without the lines of ids that are gone, where most of them are.
+    fn write_anew<R: Files>(&mut self, folder: &mut Folder<'_, R>) -> Result<(), DiskRefusal>
+        ensures lines { (id : ℕ) → digests_under self.new.lines.told id ≡ digests_under self.old.lines.told id }
+        ensures of_run { AreOfRun (calls_of folder.old.calls) (calls_of folder.new.calls) }
     {
+        if !self.lines.are_mostly_gone() {
+            return Ok(());
+        }
         write_run(folder, self.lines.text()?.as_bytes())?;
         self.lines.forget_gone();
         self.is_cut = false;
@@ -229,45 +256,56 @@ impl Claim {
     // Writes the line of a record, and then the record.
     fn tell_and_name<R: Files>(
         &mut self,
-        folder: &Folder<'_, R>,
+        folder: &mut Folder<'_, R>,
         id: u64,
         digest: &Digest,
         has_line: bool,
         contents: &[u8],
     ) -> Result<(), DiskRefusal>
         ensures lines { self.new.lines ≡ self.old.lines }
+        ensures any_moment { (start : Disk) → AtEachMoment (IsOldOrNew id contents.now start (calls_of folder.old.calls)) (calls_of folder.old.calls) (calls_of folder.new.calls) }
+        ensures on_disk { OnOk result ((start : Disk) → IsOnDisk id contents.now start (calls_of folder.new.calls)) }
     {
         // one that an earlier program left may be a second name of the record, so it is taken away and not written into
         let _ = folder.remove(DiskPlace::Beside(id));
         folder.make(DiskPlace::Beside(id), contents)?;
         self.tell(folder, id, digest, has_line)?;
-        folder.give_name(DiskPlace::Beside(id), DiskPlace::Record(id))?;
-        let flushed = folder.flush();
-        if flushed.is_err() {
-            let _ = folder.remove(DiskPlace::Record(id));
+        folder.give_name(id)?;
+        match folder.flush() {
+            Ok(()) => Ok(()),
+            Err(refusal) => {
+                let _ = folder.remove(DiskPlace::Record(id));
+                Err(refusal)
+            }
         }
-        flushed
     }
 
     // Writes a line behind those of `run`, which is flushed where the id has one already.
     fn tell<R: Files>(
         &mut self,
-        folder: &Folder<'_, R>,
+        folder: &mut Folder<'_, R>,
         id: u64,
         digest: &Digest,
         has_line: bool,
     ) -> Result<(), DiskRefusal>
         ensures lines { self.new.lines ≡ self.old.lines }
+        ensures of_run { AreOfRun (calls_of folder.old.calls) (calls_of folder.new.calls) }
     {
-        let mut text = String::new(folder.alloc());
-        if self.is_cut {
-            text.push('\n')?;
-        }
-        text.push_str(&line_of(folder.alloc(), id, digest)?)?;
+        let text = self.text_of(folder.alloc(), id, digest)?;
         self.is_cut = true;
         folder.append(DiskPlace::Run, text.as_bytes(), has_line)?;
         self.is_cut = false;
         Ok(())
+    }
+
+    // A line, on a new one where the last may be cut short.
+    fn text_of(&self, alloc: Global, id: u64, digest: &Digest) -> Result<String, AllocError> {
+        let mut text = String::new(alloc);
+        if self.is_cut {
+            text.push('\n')?;
+        }
+        text.push_str(&line_of(alloc, id, digest)?)?;
+        Ok(text)
     }
 
     /// The record under an id.
@@ -297,12 +335,14 @@ impl Claim {
     /// Takes the record under an id away.
     pub(crate) fn remove<R: Files>(
         &mut self,
-        folder: &Folder<'_, R>,
+        folder: &mut Folder<'_, R>,
         id: u64,
     ) -> Result<(), DiskRefusal>
         ensures none { OnOk result (digests_under self.new.lines.told id ≡ []) }
         ensures refused { OnErr result (self.new.lines ≡ self.old.lines) }
         ensures others { (other : ℕ) → (other ≡ id → ⊥) → digests_of self.new.lines.told other ≡ digests_of self.old.lines.told other }
+        ensures any_moment { (start : Disk) → AtEachMoment (IsOldOrGone id start (calls_of folder.old.calls)) (calls_of folder.old.calls) (calls_of folder.new.calls) }
+        ensures gone { OnOk result ((start : Disk) → IsGone id start (calls_of folder.new.calls)) }
     {
         folder.remove(DiskPlace::Record(id))?;
         self.lines.is_removed(id);

@@ -3,6 +3,10 @@ ghost use Rattle.std.specs.Prelude.{◌≡◌, [], None, Some, IsOk, IsErr, IsSo
 ghost use Rattle.std.specs.Option.{ForSome};
 ghost use Rattle.std.specs.FinMap as map;
 ghost use Rattle.fw_disk.specs.declared.claim.Wanted.TheVariants.{AsLeft};
+ghost use Rattle.fw_disk.specs.Contents.{contents_of};
+ghost use Rattle.fw_disk.specs.FolderCalls.{calls_of};
+ghost use Rattle.fw_disk.specs.PowerLoss.{Disk, AtEachMoment};
+ghost use Rattle.fw_disk.specs.Survival.{IsOld, IsOldOrNew, IsOldOrGone, IsOnDisk, IsGone, Survive, StayWhole};
 ghost use Rattle.fw_disk.specs.Told.{told_by, last_given, HasDigestsOf};
 ghost use Rattle.fw_outside.specs.Outside.{StayIfTold, faults_after, one_more};
 
@@ -11,9 +15,10 @@ use crate::cause::{DiskCall, DiskCause, DiskRefusal, Fault};
 use crate::claim::{Claim, Wanted, claim_folder, claim_left, locked_empty, record_of, run_text};
 use crate::contents::contents_of;
 use crate::folder::{Folder, place_named};
-use crate::heard::{GAVE, Heard, OPENED, PUT, REMOVED};
+use crate::heard::{GAVE, NOT_REMOVED, OPENED, PUT, REMOVED};
 use crate::lines::{RunLines, lines_in};
 use crate::start::{Empty, Start};
+use fw_heard::Heard;
 use fw_outside::{Failed, OutFault, Store};
 use sha2::{Digest, Sha256};
 use std::alloc::{AllocError, Global};
@@ -52,6 +57,8 @@ pub struct DiskStore<'a, R: Files, S: Start = Empty> {
     heard: Heard,
     start: PhantomData<S>,
     ghost has_digests: { ForSome (told_by S.held heard.notes) (HasDigestsOf claim wanted) },
+    ghost survive: { Survive S.held heard.notes (calls_of folder.calls) },
+    ghost whole: { StayWhole (calls_of folder.calls) },
 }
 
 impl<'a, R: Files<File = File>, S: Start> DiskStore<'a, R, S> {
@@ -83,9 +90,9 @@ impl<'a, R: Files<File = File>, S: Start> DiskStore<'a, R, S> {
         ensures given { (⟦<DiskStore<'a, R, S> as Store>⟧.view result).given ≡ None }
         ensures faults { (⟦<DiskStore<'a, R, S> as Store>⟧.view result).faults ≡ 0 }
     {
-        let folder = Folder::new(alloc, files, folder);
+        let mut folder = Folder::new(alloc, files, folder);
         let mut heard = Heard::new();
-        match claim_left(&folder, &mut heard) {
+        match claim_left(&mut folder, &mut heard) {
             Ok(claim) => {
                 heard.note(&[OPENED], &[]);
                 DiskStore::left(alloc, folder, Some(claim), heard)
@@ -96,7 +103,9 @@ impl<'a, R: Files<File = File>, S: Start> DiskStore<'a, R, S> {
 
     // The store of a folder as an earlier run left it, with this claim on it.
     fn left(alloc: Global, folder: Folder<'a, R>, claim: Option<Claim>, heard: Heard) -> Self
-        requires { ForSome (told_by S.held heard.notes) (HasDigestsOf claim AsLeft) }
+        requires has_digests { ForSome (told_by S.held heard.notes) (HasDigestsOf claim AsLeft) }
+        requires survive { Survive S.held heard.notes (calls_of folder.calls) }
+        requires whole { StayWhole (calls_of folder.calls) }
         ensures notes { result.heard.notes ≡ heard.notes }
         ensures claim { (result.claim ≡ claim) × (result.wanted ≡ AsLeft) }
         ensures faults { result.faults ≡ 0 }
@@ -228,18 +237,21 @@ impl<R: Files<File = File>, S: Start> DiskStore<'_, R, S> {
     // Sees to it that this run has a claim on its folder: that which it has, or one that it makes now.
     fn see_claim(&mut self) -> Result<(), DiskRefusal>
         ensures claimed { OnOk result (IsSome self.new.claim) }
+        ensures any_moment { (start : Disk) → AtEachMoment (IsOld start (calls_of self.old.folder.calls)) (calls_of self.old.folder.calls) (calls_of self.new.folder.calls) }
         ensures notes { self.new.heard.notes ≡ self.old.heard.notes }
         ensures faults { self.new.faults ≡ self.old.faults }
     {
         if let Some(claim) = &self.claim {
             return claim.check(&self.folder);
         }
-        self.claim = Some(claim_folder(&self.folder, self.wanted)?);
+        self.claim = Some(claim_folder(&mut self.folder, self.wanted)?);
         Ok(())
     }
 
     // Puts a record under a new id.
     fn put_new(&mut self, id: u64, bytes: &[u8]) -> Result<(), DiskRefusal>
+        ensures any_moment { (start : Disk) → AtEachMoment (IsOldOrNew id (contents_of bytes.now) start (calls_of self.old.folder.calls)) (calls_of self.old.folder.calls) (calls_of self.new.folder.calls) }
+        ensures on_disk { OnOk result ((start : Disk) → IsOnDisk id (contents_of bytes.now) start (calls_of self.new.folder.calls)) }
         ensures added { OnOk result (told_by S.held self.new.heard.notes ≡ option_map (λ held. map.insert held id bytes.now) (told_by S.held self.old.heard.notes)) }
         ensures refused { OnErr result (self.new.heard.notes ≡ self.old.heard.notes) }
         ensures given { last_given self.new.heard.notes ≡ last_given self.old.heard.notes }
@@ -248,7 +260,7 @@ impl<R: Files<File = File>, S: Start> DiskStore<'_, R, S> {
         let contents = contents_of(self.alloc, bytes)?;
         self.see_claim()?;
         match &mut self.claim {
-            Some(claim) => claim.put(&self.folder, id, Sha256::digest(bytes), &contents)?,
+            Some(claim) => claim.put(&mut self.folder, id, Sha256::digest(bytes), &contents)?,
             None => unreachable!(),
         }
         self.heard.note(&[PUT, id], bytes);
@@ -291,18 +303,23 @@ impl<R: Files<File = File>, S: Start> DiskStore<'_, R, S> {
 
     // Takes the record under an id out.
     fn take_out(&mut self, id: u64) -> Result<(), DiskRefusal>
+        ensures any_moment { (start : Disk) → AtEachMoment (IsOldOrGone id start (calls_of self.old.folder.calls)) (calls_of self.old.folder.calls) (calls_of self.new.folder.calls) }
+        ensures gone { OnOk result ((start : Disk) → IsGone id start (calls_of self.new.folder.calls)) }
         ensures removed { OnOk result (told_by S.held self.new.heard.notes ≡ option_map (λ held. map.remove held id) (told_by S.held self.old.heard.notes)) }
-        ensures refused { OnErr result (self.new.heard.notes ≡ self.old.heard.notes) }
+        ensures refused { OnErr result (told_by S.held self.new.heard.notes ≡ told_by S.held self.old.heard.notes) }
         ensures given { last_given self.new.heard.notes ≡ last_given self.old.heard.notes }
         ensures faults { self.new.faults ≡ self.old.faults }
     {
         self.see_claim()?;
-        match &mut self.claim {
-            Some(claim) => claim.remove(&self.folder, id)?,
+        let removed = match &mut self.claim {
+            Some(claim) => claim.remove(&mut self.folder, id),
             None => unreachable!(),
+        };
+        match removed {
+            Ok(()) => self.heard.note(&[REMOVED, id], &[]),
+            Err(_) => self.heard.note(&[NOT_REMOVED, id], &[]),
         }
-        self.heard.note(&[REMOVED, id], &[]);
-        Ok(())
+        removed
     }
 }
 

@@ -1,26 +1,39 @@
 //! The folder of a store, by calls of the system.
-ghost use Rattle.std.specs.Prelude.{◌≡◌, IfOk, string_bytes};
+ghost use Rattle.std.specs.Prelude.{◌≡◌, ℕ, List, [], ◌∷◌, true, is_ok, IfOk, IfSome, OnOk, OnErr, string_bytes};
+ghost use Rattle.std.specs.Io.KnownBytes.{Appends};
+ghost use Rattle.fw_disk.specs.FolderCalls.{calls_of, made, flushed, linked, renamed, removed, folder_flushed, is_run, IsRefused, AreOfRun};
 ghost use Rattle.fw_disk.specs.Paths.{path_of};
+ghost use Rattle.fw_disk.specs.PowerLoss.{Disk, AtEachMoment};
+ghost use Rattle.fw_disk.specs.Survival.{IsOld, IsOldOrNew, IsReady, IsNamed};
 
+use crate::call_notes::CallNotes;
 use crate::cause::{DiskPlace, DiskRefusal, Trouble};
 use std::alloc::{AllocError, Global};
 use std::fs::{self, File, Metadata, OpenFile, OpenOptions, TryLockError};
-use std::io::{ErrorKind, Read, Write};
+use std::io::{self, ErrorKind, Read, Write};
 use std::os::unix::fs::MetadataExt;
 use std::rt::Files;
 
-/// A folder of real files.
+/// A folder of real files. Each call that may change what is in it is noted with its answer.
 #[derive(Drop)]
 pub(crate) struct Folder<'a, R: Files> {
     alloc: Global,
     files: &'a R,
     name: String,
+    calls: CallNotes,
 }
 
 impl<'a, R: Files> Folder<'a, R> {
     /// The folder of this name, which no call has reached yet.
-    pub(crate) fn new(alloc: Global, files: &'a R, name: String) -> Self {
-        Folder { alloc, files, name }
+    pub(crate) fn new(alloc: Global, files: &'a R, name: String) -> Self
+        ensures { calls_of result.calls ≡ [] }
+    {
+        Folder {
+            alloc,
+            files,
+            name,
+            calls: CallNotes::new(),
+        }
     }
 
     /// The folder's name.
@@ -49,75 +62,150 @@ impl<'a, R: Files> Folder<'a, R> {
         Ok(path)
     }
 
-    /// Makes a file that is not there, with these bytes, and flushes it to the disk.
-    pub(crate) fn make(&self, place: DiskPlace, bytes: &[u8]) -> Result<(), DiskRefusal> {
+    // A new file with these bytes.
+    fn new_file(&self, place: DiskPlace, bytes: &[u8]) -> Result<R::File, DiskRefusal> {
         let path = self.path(place)?;
         let made = OpenOptions::new()
             .write(true)
             .create_new(true)
             .open(self.files, path.as_str());
         let mut file = made.map_err(|error| DiskRefusal::of(place, error))?;
-        file.write_all(bytes)
-            .map_err(|error| DiskRefusal::of(place, error))?;
-        file.sync_all()
-            .map_err(|error| DiskRefusal::of(place, error))
+        write_whole(&mut file, bytes).map_err(|error| DiskRefusal::of(place, error))?;
+        Ok(file)
     }
 
-    /// Writes bytes behind those of a file, and flushes them if they are to be.
-    pub(crate) fn append(
-        &self,
-        place: DiskPlace,
-        bytes: &[u8],
-        flushes: bool,
-    ) -> Result<(), DiskRefusal> {
+    // A file, with these bytes written behind its own.
+    fn longer_file(&self, place: DiskPlace, bytes: &[u8]) -> Result<R::File, DiskRefusal> {
         let path = self.path(place)?;
         let opened = OpenOptions::new()
             .append(true)
             .open(self.files, path.as_str());
         let mut file = opened.map_err(|error| DiskRefusal::of(place, error))?;
-        file.write_all(bytes)
-            .map_err(|error| DiskRefusal::of(place, error))?;
+        write_whole(&mut file, bytes).map_err(|error| DiskRefusal::of(place, error))?;
+        Ok(file)
+    }
+
+    // Flushes the bytes of a file that was written.
+    fn flush_file(&mut self, place: DiskPlace, file: &R::File) -> Result<(), DiskRefusal>
+        ensures { calls_of self.new.calls ≡ flushed place (is_ok result) ∷ calls_of self.old.calls }
+    {
+        let done = file
+            .sync_all()
+            .map_err(|error| DiskRefusal::of(place, error));
+        self.calls.flushed(place, done.is_ok());
+        done
+    }
+
+    /// Makes a file that is not there, with these bytes, and flushes it to the disk.
+    pub(crate) fn make(&mut self, place: DiskPlace, bytes: &[u8]) -> Result<(), DiskRefusal>
+        ensures done { OnOk result (calls_of self.new.calls ≡ flushed place true ∷ made place bytes.now true ∷ calls_of self.old.calls) }
+        ensures refused { OnErr result (IsRefused place bytes.now (calls_of self.old.calls) (calls_of self.new.calls)) }
+    {
+        let file = self.new_file(place, bytes);
+        self.calls.made(place, bytes, file.is_ok());
+        self.flush_file(place, &file?)
+    }
+
+    /// Writes bytes behind those of a file, and flushes them if they are to be.
+    pub(crate) fn append(
+        &mut self,
+        place: DiskPlace,
+        bytes: &[u8],
+        flushes: bool,
+    ) -> Result<(), DiskRefusal>
+        ensures { is_run place ≡ true → AreOfRun (calls_of self.old.calls) (calls_of self.new.calls) }
+    {
+        let longer = self.longer_file(place, bytes);
+        self.calls.appended(place, bytes, longer.is_ok());
+        let file = longer?;
         if !flushes {
             return Ok(());
         }
-        file.sync_all()
-            .map_err(|error| DiskRefusal::of(place, error))
+        self.flush_file(place, &file)
     }
 
-    /// Gives a file a name that is not there. Where the file system has no second names, the name is taken by an empty file
-    /// first, and then the file is renamed.
-    pub(crate) fn give_name(&self, from: DiskPlace, to: DiskPlace) -> Result<(), DiskRefusal> {
+    // The system's call that gives a file a second name.
+    fn do_link(&self, from: DiskPlace, to: DiskPlace) -> Result<(), DiskRefusal> {
         let (beside, named) = (self.path(from)?, self.path(to)?);
-        match fs::hard_link(self.files, beside.as_str(), named.as_str()) {
+        fs::hard_link(self.files, beside.as_str(), named.as_str()).map_err(|error| DiskRefusal::of(
+            to, error,
+        ))
+    }
+
+    // Gives a file a second name that is not there.
+    fn link(&mut self, from: DiskPlace, to: DiskPlace) -> Result<(), DiskRefusal>
+        ensures { calls_of self.new.calls ≡ linked from to (is_ok result) ∷ calls_of self.old.calls }
+    {
+        let done = self.do_link(from, to);
+        self.calls.linked(from, to, done.is_ok());
+        done
+    }
+
+    /// Gives the file beside the name of the record, which is not there. Where the file system has no second names, the name is taken
+    /// by an empty file first, and then the file is renamed.
+    pub(crate) fn give_name(&mut self, id: u64) -> Result<(), DiskRefusal>
+        ensures any_moment { (start : Disk) (contents : List ℕ) → IsReady id contents start (calls_of self.old.calls) → AtEachMoment (IsOldOrNew id contents start (calls_of self.old.calls)) (calls_of self.old.calls) (calls_of self.new.calls) }
+        ensures named { OnOk result ((start : Disk) (contents : List ℕ) → IsReady id contents start (calls_of self.old.calls) → IsNamed id contents start (calls_of self.new.calls)) }
+    {
+        match self.link(DiskPlace::Beside(id), DiskPlace::Record(id)) {
             Ok(()) => Ok(()),
-            Err(error) => match error.kind() {
-                ErrorKind::PermissionDenied | ErrorKind::Unsupported => {
-                    self.make(to, &[])?;
-                    let renamed = self.rename(from, to);
-                    if renamed.is_err() {
-                        let _ = self.remove(to);
-                    }
-                    renamed
+            Err(refusal) => {
+                if refusal.is_of_second_names() {
+                    self.take_name(id)
+                } else {
+                    Err(refusal)
                 }
-                _ => Err(DiskRefusal::of(to, error)),
-            },
+            }
         }
     }
 
-    /// Renames a file, in place of what has the name.
-    pub(crate) fn rename(&self, from: DiskPlace, to: DiskPlace) -> Result<(), DiskRefusal> {
+    // Takes the name of a record by an empty file, and gives it to the file beside.
+    fn take_name(&mut self, id: u64) -> Result<(), DiskRefusal>
+        ensures any_moment { (start : Disk) (contents : List ℕ) → IsReady id contents start (calls_of self.old.calls) → AtEachMoment (IsOldOrNew id contents start (calls_of self.old.calls)) (calls_of self.old.calls) (calls_of self.new.calls) }
+        ensures named { OnOk result ((start : Disk) (contents : List ℕ) → IsReady id contents start (calls_of self.old.calls) → IsNamed id contents start (calls_of self.new.calls)) }
+    {
+        self.make(DiskPlace::Record(id), &[])?;
+        match self.rename(DiskPlace::Beside(id), DiskPlace::Record(id)) {
+            Ok(()) => Ok(()),
+            Err(refusal) => {
+                let _ = self.remove(DiskPlace::Record(id));
+                Err(refusal)
+            }
+        }
+    }
+
+    // The system's call that renames a file.
+    fn do_rename(&self, from: DiskPlace, to: DiskPlace) -> Result<(), DiskRefusal> {
         let (beside, named) = (self.path(from)?, self.path(to)?);
         fs::rename(self.files, beside.as_str(), named.as_str()).map_err(|error| DiskRefusal::of(
             to, error,
         ))
     }
 
-    /// Takes a file away.
-    pub(crate) fn remove(&self, place: DiskPlace) -> Result<(), DiskRefusal> {
+    /// Renames a file, in place of what has the name.
+    pub(crate) fn rename(&mut self, from: DiskPlace, to: DiskPlace) -> Result<(), DiskRefusal>
+        ensures { calls_of self.new.calls ≡ renamed from to (is_ok result) ∷ calls_of self.old.calls }
+    {
+        let done = self.do_rename(from, to);
+        self.calls.renamed(from, to, done.is_ok());
+        done
+    }
+
+    // The system's call that takes a file away.
+    fn do_remove(&self, place: DiskPlace) -> Result<(), DiskRefusal> {
         let path = self.path(place)?;
         fs::remove_file(self.files, path.as_str()).map_err(|error| DiskRefusal::of_record(
             place, error,
         ))
+    }
+
+    /// Takes a file away.
+    pub(crate) fn remove(&mut self, place: DiskPlace) -> Result<(), DiskRefusal>
+        ensures { calls_of self.new.calls ≡ removed place (is_ok result) ∷ calls_of self.old.calls }
+    {
+        let done = self.do_remove(place);
+        self.calls.removed(place, done.is_ok());
+        done
     }
 
     /// Whether a file is there.
@@ -132,13 +220,25 @@ impl<'a, R: Files> Folder<'a, R> {
         }
     }
 
-    /// Whether a file has no bytes.
-    pub(crate) fn is_empty(&self, place: DiskPlace) -> Result<bool, DiskRefusal> {
+    // Whether a file has no bytes.
+    fn is_empty(&self, place: DiskPlace) -> Result<bool, DiskRefusal> {
         let path = self.path(place)?;
         let there = fs::metadata(self.files, path.as_str()).map_err(|error| DiskRefusal::of(
             place, error,
         ))?;
         Ok(there.is_file() && there.len() == 0)
+    }
+
+    /// Takes the file of a record away if it has no bytes. Whether it had none.
+    pub(crate) fn remove_empty(&mut self, id: u64) -> Result<bool, DiskRefusal>
+        ensures { (start : Disk) → AtEachMoment (IsOld start (calls_of self.old.calls)) (calls_of self.old.calls) (calls_of self.new.calls) }
+    {
+        if !self.is_empty(DiskPlace::Record(id))? {
+            return Ok(false);
+        }
+        self.calls.seen_empty(DiskPlace::Record(id));
+        self.remove(DiskPlace::Record(id))?;
+        Ok(true)
     }
 
     /// The bytes of a file.
@@ -147,14 +247,11 @@ impl<'a, R: Files> Folder<'a, R> {
         let mut file = fs::open(self.files, path.as_str()).map_err(|error| DiskRefusal::of_record(
             place, error,
         ))?;
-        let mut bytes = Vec::new(self.alloc);
-        file.read_to_end(&mut bytes)
-            .map_err(|error| DiskRefusal::of_record(place, error))?;
-        Ok(bytes)
+        read_whole(self.alloc, &mut file).map_err(|error| DiskRefusal::of_record(place, error))
     }
 
-    /// Flushes the names of the folder's files to the disk.
-    pub(crate) fn flush(&self) -> Result<(), DiskRefusal> {
+    // The system's calls that flush the names.
+    fn do_flush(&self) -> Result<(), DiskRefusal> {
         let path = self.path(DiskPlace::Folder)?;
         let folder = fs::open(self.files, path.as_str()).map_err(|error| DiskRefusal::of(
             DiskPlace::Folder,
@@ -163,6 +260,15 @@ impl<'a, R: Files> Folder<'a, R> {
         folder
             .sync_all()
             .map_err(|error| DiskRefusal::of(DiskPlace::Folder, error))
+    }
+
+    /// Flushes the names of the folder's files to the disk.
+    pub(crate) fn flush(&mut self) -> Result<(), DiskRefusal>
+        ensures { calls_of self.new.calls ≡ folder_flushed (is_ok result) ∷ calls_of self.old.calls }
+    {
+        let done = self.do_flush();
+        self.calls.folder_flushed(done.is_ok());
+        done
     }
 
     /// The names of digits alone in the folder, ascending by number.
@@ -221,6 +327,22 @@ impl<R: Files<File = File>> Folder<'_, R> {
         ))?;
         Ok(is_same_node(&there, &locked))
     }
+}
+
+// Writes all of the bytes: a file that tells its bytes has these more then.
+fn write_whole<W: Write>(file: &mut W, bytes: &[u8]) -> io::Result<()>
+    ensures { OnOk result (Appends (W.contents file.old) (W.contents file.new) bytes.now) }
+{
+    file.write_all(bytes)
+}
+
+// Reads a file to its end: of one that tells its bytes, all that are left.
+fn read_whole<F: Read>(alloc: Global, file: &mut F) -> io::Result<Vec<u8>>
+    ensures { IfOk result (λ read. IfSome (F.remaining file.old) (λ bytes. read.items ≡ bytes)) }
+{
+    let mut bytes = Vec::new(alloc);
+    file.read_to_end(&mut bytes)?;
+    Ok(bytes)
 }
 
 // Whether two files are one.

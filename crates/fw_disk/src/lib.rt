@@ -1,6 +1,7 @@
 //! A store of records in a folder of real files.
 #![tactic(auto)]
 
+mod call_notes;
 mod cause;
 mod claim;
 mod contents;

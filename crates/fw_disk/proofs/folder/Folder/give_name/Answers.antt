@@ -1,0 +1,31 @@
+use Rattle.std.proofs.Common.{true, false}
+use Rattle.std.proofs.lemmas.Result.{on_ok_weaker}
+use Rattle.fw_disk.specs.FolderCalls.{calls_of}
+use Rattle.fw_disk.proofs.PutMoments.{then_puts, linked_puts, linked_ready, linked_named}
+use Rattle.fw_disk.proofs.folder.Folder.give_name.Goals as goal
+
+pub returns-in-Ok-clause-any_moment : goal.returns-in-Ok-clause-any_moment
+returns-in-Ok-clause-any_moment g c start contents ready =
+    linked_puts c.args.id contents start (calls_of c.args.self.now.calls) (calls_of c.link.new.self.calls) true c.in-Ok.ensures ready
+
+pub returns-in-Ok-clause-named : goal.returns-in-Ok-clause-named
+returns-in-Ok-clause-named g c start contents ready =
+    linked_named c.args.id contents start (calls_of c.args.self.now.calls) (calls_of c.link.new.self.calls) c.in-Ok.ensures ready
+
+pub returns-then-is_of_second_names-clause-any_moment : goal.returns-then-is_of_second_names-clause-any_moment
+returns-then-is_of_second_names-clause-any_moment g c start contents ready =
+    let id = c.args.id in
+    let old = calls_of c.args.self.now.calls in
+    let linked = calls_of c.link.new.self.calls in
+    then_puts id contents start old linked (calls_of c.take_name.new.self.calls) (linked_puts id contents start old linked false c.in-Err.ensures ready)
+    (c.take_name.ensures.any_moment start contents (linked_ready id contents start old linked false c.in-Err.ensures ready))
+
+pub returns-then-is_of_second_names-clause-named : goal.returns-then-is_of_second_names-clause-named
+returns-then-is_of_second_names-clause-named g c =
+    on_ok_weaker c.take_name.result
+    (λ named start contents ready. named start contents (linked_ready c.args.id contents start (calls_of c.args.self.now.calls) (calls_of c.link.new.self.calls) false c.in-Err.ensures ready))
+    c.take_name.ensures.named
+
+pub returns-else-is_of_second_names-clause-any_moment : goal.returns-else-is_of_second_names-clause-any_moment
+returns-else-is_of_second_names-clause-any_moment g c start contents ready =
+    linked_puts c.args.id contents start (calls_of c.args.self.now.calls) (calls_of c.link.new.self.calls) false c.in-Err.ensures ready

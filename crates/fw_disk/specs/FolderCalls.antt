@@ -1,0 +1,106 @@
+-- The calls that change a folder, each with its answer.
+use Rattle.std.specs.Prelude.{◌≡◌, ℕ, zero, suc, ◌==◌, Bool, true, false, ◌&&◌, ◌⊎◌, List, ◌∷◌, ◌++◌, map, slice_index}
+use Rattle.std.specs.List.{list_all}
+use Rattle.fw_heard.specs.Note.{Note, became_of}
+use Rattle.fw_disk.specs.declared.cause.DiskPlace.{DiskPlace}
+use Rattle.fw_disk.specs.declared.cause.DiskPlace.TheVariants.{Folder, Record, Beside, Run, RunBeside}
+use Rattle.fw_disk.specs.declared.call_notes.CallNotes.{CallNotes}
+
+-- A call and whether it was done. One that was refused may have been done all the same, or in part.
+pub data FolderCall : Type 0 where
+  -- a file that was not there was made, and these bytes were written into it
+  made : (place : DiskPlace) (bytes : List ℕ) (done : Bool) → FolderCall
+  -- bytes were written behind those of a file
+  appended : (place : DiskPlace) (bytes : List ℕ) (done : Bool) → FolderCall
+  -- the bytes of a file were flushed to the disk
+  flushed : (place : DiskPlace) (done : Bool) → FolderCall
+  -- a file got a second name, which was not there
+  linked : (from to : DiskPlace) (done : Bool) → FolderCall
+  -- a file got another name, in place of what had it
+  renamed : (from to : DiskPlace) (done : Bool) → FolderCall
+  -- a name was taken away
+  removed : (place : DiskPlace) (done : Bool) → FolderCall
+  -- the names were flushed to the disk
+  folder_flushed : (done : Bool) → FolderCall
+  -- a file was looked at, and had no bytes
+  seen_empty : (place : DiskPlace) → FolderCall
+
+-- ---- how they are noted
+
+-- a place by two numbers
+abbrev pub kind_of : DiskPlace → ℕ
+kind_of (Record id) = 0
+kind_of (Beside id) = 1
+kind_of Run = 2
+kind_of RunBeside = 3
+kind_of Folder = 4
+
+abbrev pub number_of : DiskPlace → ℕ
+number_of (Record id) = id
+number_of (Beside id) = id
+number_of Run = 0
+number_of RunBeside = 0
+number_of Folder = 0
+
+abbrev pub place_of : ℕ → ℕ → DiskPlace
+place_of zero id = Record id
+place_of (suc zero) id = Beside id
+place_of (suc (suc zero)) id = Run
+place_of (suc (suc (suc zero))) id = RunBeside
+place_of (suc (suc (suc (suc more)))) id = Folder
+
+-- the call of this sort, at a place and perhaps a second
+abbrev pub sort_of : ℕ → DiskPlace → DiskPlace → Bool → List ℕ → FolderCall
+sort_of zero place to done bytes = made place bytes done
+sort_of (suc zero) place to done bytes = appended place bytes done
+sort_of (suc (suc zero)) place to done bytes = flushed place done
+sort_of (suc (suc (suc zero))) place to done bytes = linked place to done
+sort_of (suc (suc (suc (suc zero)))) place to done bytes = renamed place to done
+sort_of (suc (suc (suc (suc (suc zero))))) place to done bytes = removed place done
+sort_of (suc (suc (suc (suc (suc (suc zero)))))) place to done bytes = folder_flushed done
+sort_of (suc (suc (suc (suc (suc (suc (suc more))))))) place to done bytes = seen_empty place
+
+-- the call of a note: its sort, its places, and whether it was done
+abbrev pub call_of : Note → FolderCall
+call_of note =
+    sort_of (became_of note) (place_of (slice_index note.0 1) (slice_index note.0 2)) (place_of (slice_index note.0 3) (slice_index note.0 4))
+    (slice_index note.0 5 == 1) note.1
+
+-- the calls that were noted, the newest first
+abbrev pub calls_of : CallNotes → List FolderCall
+calls_of calls = map call_of calls.heard.notes
+
+-- ---- which calls were made
+
+-- whether two places are one
+abbrev pub is_place : DiskPlace → DiskPlace → Bool
+is_place a b = (kind_of a == kind_of b) && (number_of a == number_of b)
+
+-- the file `run`, or the one beside it
+abbrev pub is_run : DiskPlace → Bool
+is_run (Record id) = false
+is_run (Beside id) = false
+is_run Run = true
+is_run RunBeside = true
+is_run Folder = false
+
+-- whether a call is of these two files alone
+abbrev pub is_of_run : FolderCall → Bool
+is_of_run (made place bytes done) = is_run place
+is_of_run (appended place bytes done) = is_run place
+is_of_run (flushed place done) = is_run place
+is_of_run (linked from to done) = is_run from && is_run to
+is_of_run (renamed from to done) = is_run from && is_run to
+is_of_run (removed place done) = is_run place
+is_of_run (folder_flushed done) = true
+is_of_run (seen_empty place) = is_run place
+
+-- the calls since an earlier history, all of them of these two files
+pub record AreOfRun (old new : List FolderCall) : Type 0 where
+  pub since : List FolderCall
+  pub history : new ≡ since ++ old
+  pub of_run : list_all is_of_run since ≡ true
+
+-- a file that was to be made whole and flushed was refused, or its flush was
+abbrev pub IsRefused : DiskPlace → List ℕ → List FolderCall → List FolderCall → Type 0
+IsRefused place bytes old new = (new ≡ made place bytes false ∷ old) ⊎ (new ≡ flushed place false ∷ made place bytes true ∷ old)

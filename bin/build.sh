@@ -96,9 +96,10 @@ write_both() {
     mkdir -p "$both" && (cd "$top" && cp -r --parents crates/*/src "$room/repo/") || return
     { cat "$top/crates.txt" && echo "both: $(sed -n 's/^falkirk\(_disk\)\{0,1\}: *//p' "$top/crates.txt" | tr ' ' '\n' | sort -u | tr '\n' ' ')"; } >"$room/repo/crates.txt"
     for it in falkirk falkirk_disk; do
-        sed -e '/^#!\[tactic(auto)\]$/d' -e 's/^fn main(/pub fn start(/' "$top/crates/$it/src/main.rt" >"$both/$it.rt" || return
+        own="s/\\bcrate::/crate::$it::/g"
+        sed -e '/^#!\[tactic(auto)\]$/d' -e 's/^fn main(/pub fn start(/' -e "$own" "$top/crates/$it/src/main.rt" >"$both/$it.rt" || return
         for file in "$top/crates/$it/src/"*.rt; do
-            [ "$file" = "$top/crates/$it/src/main.rt" ] || { mkdir -p "$both/$it" && cp "$file" "$both/$it/"; } || return
+            [ "$file" = "$top/crates/$it/src/main.rt" ] || { mkdir -p "$both/$it" && sed -e "$own" "$file" >"$both/$it/${file##*/}"; } || return
         done
     done
     cat >"$both/main.rt" <<'END'

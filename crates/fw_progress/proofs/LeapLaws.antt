@@ -1,5 +1,5 @@
 -- A leap leaves a family admissible, and what its calls keep.
-use Rattle.std.proofs.Common.{◌↔◌, ◌≡◌, ◌⊎◌, ℕ, zero, suc, ◌+◌, ◌<◌, ◌≤◌, Bool, true, false, ◌||◌, List, [], ◌∷◌, ◌++◌, length, get_or, set, refl, sym, ap, subst, ◌∙◌, inl, inr, arith}
+use Rattle.std.proofs.Common.{◌↔◌, ◌≡◌, ◌⊎◌, ℕ, zero, suc, ◌+◌, ◌<◌, ◌≤◌, Bool, true, false, List, [], ◌∷◌, ◌++◌, length, get_or, set, refl, sym, ap, subst, ◌∙◌, inl, inr, arith}
 use Rattle.std.proofs.lemmas.Bool.{and_parts, cases_eq, cases_lt, both_ways}
 use Rattle.std.specs.Prelude.{IsTrue}
 use Rattle.fw_lemmas.proofs.Lists.{read_at}
@@ -15,7 +15,7 @@ use Rattle.fw_progress.specs.declared.counts.Counts.{Counts}
 use Rattle.fw_progress.specs.declared.growth.Growth.{Growth}
 use Rattle.fw_progress.specs.Counts.{target_by, IsAdmissibleBy}
 use Rattle.fw_progress.specs.Growths.{IsMore, IsGrown, HaveGrown, IsTakenUp}
-use Rattle.fw_progress.specs.Leap.{is_node_marked, CanLeapAt, CanLeap, AreAbove, IsReachedAt, HaveReached, HaveLeapt, AreLoweredBefore, AreLowered, StaysLow}
+use Rattle.fw_progress.specs.Leap.{is_node_marked, CanLeapAt, CanLeap, AreAbove, IsReachedAt, HaveReached, HaveLeapt, IsClimbing, AreLedTo, AreProposed, AreNoneProposed, IsWithoutProposal, CannotLeap, AreLowered, StaysLow}
 use Rattle.fw_progress.proofs.TargetLaws.{target-monotone}
 use Rattle.fw_progress.proofs.GrowLaws.{family_new, family_old, family_grows, none_grown, one_grown, grown_then}
 use Rattle.fw_progress.proofs.StartLaws.{past-all}
@@ -128,19 +128,40 @@ one_more flow counts p i f x old next new work rest growths more w l c e k is sa
 
 -- ---- the leap
 
-pub none_leapt : (flow : Dataflow) (counts : Counts) (old : List Front) (work : List ℕ) (growths : List Growth) → HaveLeapt flow counts old old work work growths growths
-none_leapt flow counts old work growths = record { grew = none_grown flow counts old work growths; admissible = λ a. a }
+-- nothing changes
+none-leapt : (flow : Dataflow) (counts : Counts) (p : ℕ) (old : List Front) (work : List ℕ) (growths : List Growth)
+    → (IsClimbing flow counts old growths p → ⊥) ⊎ (IsWithoutProposal flow counts p old ⊎ CannotLeap flow counts p old) → HaveLeapt flow counts p old old work work growths growths
+none-leapt flow counts p old work growths why = record {
+  grew = none_grown flow counts old work growths;
+  admissible = λ a. a;
+  taken = inr (record { same = refl; same_work = refl; same_growths = refl; why = why });
+}
 
-pub have_leapt : (flow : Dataflow) (counts : Counts) (old next new : List Front) (work rest : List ℕ) (growths more : List Growth) → length old ≡ length flow.nodes → length next ≡ length flow.nodes
-    → CanLeap flow counts old next → HaveReached flow counts old next new work rest growths more → HaveLeapt flow counts old new work rest growths more
-have_leapt flow counts old next new work rest growths more one two can r = record {
+pub does_not_climb : (flow : Dataflow) (counts : Counts) (p : ℕ) (old : List Front) (work : List ℕ) (growths : List Growth) (climbs : Bool)
+    → IsTrue climbs ↔ IsClimbing flow counts old growths p → climbs ≡ false → HaveLeapt flow counts p old old work work growths growths
+does_not_climb flow counts p old work growths climbs is none = none-leapt flow counts p old work growths (inl (λ k. both_ways climbs none (is.1 k)))
+
+pub none_proposed : (flow : Dataflow) (counts : Counts) (p : ℕ) (old : List Front) (work : List ℕ) (growths : List Growth) (marks : List Bool)
+    → AreLedTo flow p marks → AreNoneProposed flow counts marks old → HaveLeapt flow counts p old old work work growths growths
+none_proposed flow counts p old work growths marks led none = none-leapt flow counts p old work growths (inr (inl (record { marks = marks; led = led; none = none })))
+
+pub may_not_leap : (flow : Dataflow) (counts : Counts) (p : ℕ) (old : List Front) (work : List ℕ) (growths : List Growth) (marks : List Bool) (next : List Front) (can : Bool)
+    → AreLedTo flow p marks → AreProposed flow counts marks old next → IsTrue can ↔ CanLeap flow counts old next → can ≡ false → HaveLeapt flow counts p old old work work growths growths
+may_not_leap flow counts p old work growths marks next can led proposed is none =
+    none-leapt flow counts p old work growths (inr (inr (record { marks = marks; led = led; next = next; proposed = proposed; cannot = λ k. both_ways can none (is.1 k) })))
+
+pub have_leapt : (flow : Dataflow) (counts : Counts) (p : ℕ) (old next new : List Front) (work rest : List ℕ) (growths more : List Growth) (marks : List Bool)
+    → length old ≡ length flow.nodes → length next ≡ length flow.nodes → IsClimbing flow counts old growths p → AreLedTo flow p marks → AreProposed flow counts marks old next
+    → CanLeap flow counts old next → HaveReached flow counts old next new work rest growths more → HaveLeapt flow counts p old new work rest growths more
+have_leapt flow counts p old next new work rest growths more marks one two climbs led proposed can r = record {
   grew = r.grew;
   admissible = λ a. same-admissible flow counts next new (r.grew.one_each ∙ one) r.below r.above (leap-admissible flow counts old next two can a);
+  taken = inl (record { climbs = climbs; marks = marks; led = led; next = next; proposed = proposed; can = can; below = r.below; above = r.above });
 }
 
 -- a leap, and then the node is widened
 pub leapt_taken : (flow : Dataflow) (counts : Counts) (p : ℕ) (old mid new : List Front) (work some rest : List ℕ) (growths more most : List Growth)
-    → HaveLeapt flow counts old mid work some growths more → IsTakenUp flow counts p mid new some rest more most → IsTakenUp flow counts p old new work rest growths most
+    → HaveLeapt flow counts p old mid work some growths more → IsTakenUp flow counts p mid new some rest more most → IsTakenUp flow counts p old new work rest growths most
 leapt_taken flow counts p old mid new work some rest growths more most a b = record {
   grew = grown_then flow counts old mid new work some rest growths more most a.grew b.grew;
   admissible = λ k. b.admissible (a.admissible k);
@@ -204,25 +225,6 @@ leap_low flow counts old next marks p i r m above one low l is at marked =
     (λ e. record { above = above.0 one; within = inr (low p l (ap (is_node_marked marks) (sym at) ∙ sym is ∙ marked)) }, λ can. refl)
 
 -- ---- the marked nodes are lowered
-
-pub low_none : (flow : Dataflow) (counts : Counts) (marks : List Bool) (fronts : List Front) → AreLoweredBefore flow counts marks 0 fronts
-low_none flow counts marks fronts p l = absurd (omega (arith, l))
-
--- one node more that had no more
-pub low_more : (flow : Dataflow) (counts : Counts) (marks : List Bool) (n p : ℕ) (old new : List Front) (lowered more : Bool) → p ≡ n
-    → (lowered ≡ false → AreLoweredBefore flow counts marks n old) → (more ≡ false → StaysLow flow counts marks p old new)
-    → (lowered || more) ≡ false → AreLoweredBefore flow counts marks (n + 1) new
-low_more flow counts marks n p old new lowered more e before here none q l marked =
-    let both = neither lowered more none in
-    let stays = here both.1 in
-    subst (λ fs. Within (family_of flow fs q) (target_by flow counts (family_of flow fs) q)) (sym stays.same) (elim (cases_eq q p) [
-      | inl s ↦ subst (λ r. Within (family_of flow old r) (target_by flow counts (family_of flow old) r)) (sym s) (stays.within (ap (is_node_marked marks) (sym s) ∙ marked))
-      | inr s ↦ before both.0 q (omega (arith, l, s, e)) marked
-    ])
-  where
-    neither : (a b : Bool) → (a || b) ≡ false → (a ≡ false) × (b ≡ false)
-    neither true b k = absurd (cc)
-    neither false b k = (refl, k)
 
 pub low_unmarked : (flow : Dataflow) (counts : Counts) (marks : List Bool) (fronts : List Front) (p i : ℕ) (m : Bool) → i ≡ p → m ≡ is_node_marked marks i → m ≡ false → StaysLow flow counts marks p fronts fronts
 low_unmarked flow counts marks fronts p i m e is none = record { same = refl; within = λ marked. absurd (both_ways m none (is ∙ ap (is_node_marked marks) e ∙ marked)) }

@@ -25,6 +25,7 @@ pub mod SentCoverLaws
 pub mod StampsLaws
 pub mod RestoreLaws
 pub mod LeapLaws
+pub mod ProposedLaws
 mod LedLaws
 pub mod IntoLaws
 pub mod AmongLaws

@@ -1,5 +1,5 @@
 //! A leap over the counters of a loop.
-ghost use Rattle.std.specs.Prelude.{◌≡◌, ◌↔◌, ◌+◌, ◌*◌, ◌<◌, ◌≤◌, ◌==◌, not, true, false, [], length, slice_set, IsTrue, IfSome, IfOk};
+ghost use Rattle.std.specs.Prelude.{◌≡◌, ◌↔◌, ◌+◌, ◌*◌, ◌<◌, ◌≤◌, ◌==◌, not, true, false, [], length, slice_set, IsTrue, IfSome, IfNone, IfOk};
 ghost use Rattle.std.specs.List.{list_any};
 ghost use Rattle.fw_flow.specs.Dataflow.{out_edges};
 ghost use Rattle.fw_model.specs.Machine.{AreCanonical};
@@ -7,7 +7,7 @@ ghost use Rattle.fw_progress.specs.declared.growth.Growth.{Growth as Grown};
 ghost use Rattle.fw_progress.specs.Counts.{AreCounts};
 ghost use Rattle.fw_progress.specs.Growths.{HaveGrown};
 ghost use Rattle.fw_progress.specs.Leap as spec;
-ghost use Rattle.fw_progress.specs.Leap.{IsClimbing, AreLedTo, IsMarking, unmarked, CanLeapAt, CanLeap, AreAbove, IsReachedAt, HaveReached, HaveLeapt, AreLowered, StaysLow};
+ghost use Rattle.fw_progress.specs.Leap.{IsClimbing, AreLedTo, IsMarking, unmarked, CanLeapAt, CanLeap, AreAbove, IsReachedAt, HaveReached, HaveLeapt, AreRaisedAtMarks, AreLowered, IsLoweredAt, StaysLow, IsPass, IsLastPass, AreProposed, AreNoneProposed};
 
 use crate::counts::Counts;
 use crate::grow::{grow, is_more, larger};
@@ -132,6 +132,7 @@ fn raised(
     requires canonical { AreCanonical flow.now fronts.now }
     ensures one_each { IfOk result (λ next. length next.items ≡ length flow.now.nodes) }
     ensures canonical { IfOk result (λ next. AreCanonical flow.now next.items) }
+    ensures raised { IfOk result (λ next. AreRaisedAtMarks flow.now marks.now fronts.now next.items) }
 {
     let mut next = Vec::new(alloc);
     for place in 0..fronts.len() {
@@ -161,6 +162,7 @@ fn lower_at(
     requires canonical { AreCanonical flow.now next.old.items }
     ensures one_each { IfOk result (λ b. length next.new.items ≡ length flow.now.nodes) }
     ensures canonical { IfOk result (λ b. AreCanonical flow.now next.new.items) }
+    ensures lowered { IfOk result (λ had_more. had_more ≡ true → IsLoweredAt flow.now counts.now marks.now node next.old.items next.new.items) }
     ensures low { IfOk result (λ had_more. had_more ≡ false → StaysLow flow.now counts.now marks.now node next.old.items next.new.items) }
 {
     let place = node.place() as usize;
@@ -188,7 +190,8 @@ fn lower(
     requires canonical { AreCanonical flow.now next.old.items }
     ensures one_each { IfOk result (λ b. length next.new.items ≡ length flow.now.nodes) }
     ensures canonical { IfOk result (λ b. AreCanonical flow.now next.new.items) }
-    ensures low { IfOk result (λ had_more. had_more ≡ false → AreLowered flow.now counts.now marks.now next.new.items) }
+    ensures pass { IfOk result (λ had_more. had_more ≡ true → IsPass flow.now counts.now marks.now next.old.items next.new.items) }
+    ensures last { IfOk result (λ had_more. had_more ≡ false → IsLastPass flow.now counts.now marks.now next.old.items next.new.items) }
 {
     let mut lowered = false;
     for place in 0..flow.nodes() {
@@ -212,7 +215,8 @@ fn lowered(
     requires canonical { AreCanonical flow.now fronts.now }
     ensures one_each { IfOk result (λ lowered. IfSome lowered (λ next. length next.items ≡ length flow.now.nodes)) }
     ensures canonical { IfOk result (λ lowered. IfSome lowered (λ next. AreCanonical flow.now next.items)) }
-    ensures low { IfOk result (λ lowered. IfSome lowered (λ next. AreLowered flow.now counts.now marks.now next.items)) }
+    ensures proposed { IfOk result (λ lowered. IfSome lowered (λ next. AreProposed flow.now counts.now marks.now fronts.now next.items)) }
+    ensures none { IfOk result (λ lowered. IfNone lowered (AreNoneProposed flow.now counts.now marks.now fronts.now)) }
 {
     let mut next = raised(alloc, flow, fronts, marks)?;
     for _ in 0..flow.nodes() {
@@ -350,7 +354,7 @@ pub(crate) fn leap(
     requires counts { AreCounts flow.now counts.now }
     requires one_each { length fronts.old.items ≡ length flow.now.nodes }
     requires canonical { AreCanonical flow.now fronts.old.items }
-    ensures { IfOk result (λ u. HaveLeapt flow.now counts.now fronts.old.items fronts.new.items work.old work.new
+    ensures { IfOk result (λ u. HaveLeapt flow.now counts.now node fronts.old.items fronts.new.items work.old work.new
         growths.old.items growths.new.items) }
 {
     if !is_climbing(alloc, flow, counts, fronts, growths, node)? {

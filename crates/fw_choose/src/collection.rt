@@ -9,6 +9,7 @@ ghost use Rattle.fw_model.specs.Machine as machine;
 ghost use Rattle.fw_progress.specs.Trace.{HaveLists};
 ghost use Rattle.fw_rollback.specs.Edges.{on_edge};
 ghost use Rattle.fw_choose.specs.Collecting.{AreLeft, AreGivenUp, IsRaised, AreRaised, RaisesLow};
+ghost use Rattle.fw_running.specs.Drawn.{supply};
 ghost use Rattle.fw_running.specs.Shaped.{HasOneEach, IsShaped};
 ghost use Rattle.fw_running.specs.Steps.{StepAnswers, TakesStep};
 
@@ -28,7 +29,8 @@ use std::alloc::AllocError;
 pub fn collect<K: Store>(running: &mut Running, store: &mut K) -> Result<Stepped, EngineFault>
     requires shaped { IsShaped running.old }
     requires stored { IsStored running.old.parts.keep (K.view store.old).records }
-    ensures { StepAnswers K.view running.old store.old steps.Collect result running.new store.new }
+    ensures answers { StepAnswers K.view running.old store.old steps.Collect result running.new store.new }
+    ensures draws { supply running.new.parts.keep ≡ supply running.old.parts.keep }
 {
     let stepped = raise_low(running)?;
     running.parts.keep.sweep(store)?;
@@ -44,7 +46,7 @@ pub fn raise_low(running: &mut Running) -> Result<Stepped, AllocError>
     ensures flow { running.new.flow ≡ running.old.flow }
     ensures takes { IfOk result (λ stepped. (records : Option Records)
         → TakesStep running.old records steps.Collect (Ok stepped) running.new records) }
-    ensures draws { running.new.parts.keep.next ≡ running.old.parts.keep.next }
+    ensures draws { supply running.new.parts.keep ≡ supply running.old.parts.keep }
 {
     let choice = choose(running, Lost::All)?;
     let low = fronts_of(running.alloc, &choice)?;
@@ -65,7 +67,7 @@ fn give_up(running: &mut Running, choice: &Choice, low: Vec<Front>) -> Result<()
     ensures collected { IfOk result (λ u. RaisesLow (watermark choice.now) running.old running.new) }
     ensures flow { running.new.flow ≡ running.old.flow }
     ensures stored { (records : Option Records) → IsStored running.old.parts.keep records → IsStored running.new.parts.keep records }
-    ensures draws { running.new.parts.keep.next ≡ running.old.parts.keep.next }
+    ensures draws { supply running.new.parts.keep ≡ supply running.old.parts.keep }
 {
     let drops = plan(
         running.alloc,

@@ -1,8 +1,8 @@
 -- What an engine answers, from what its step does.
-use Rattle.std.proofs.Common.{◌≡◌, ◌≢◌, ◌<◌, ℕ, true, false, length, Option, Result, Ok, Err, refl, subst}
+use Rattle.std.proofs.Common.{◌≡◌, ◌≢◌, ◌<◌, ℕ, Bool, true, false, length, Option, Result, Ok, Err, refl, ap, subst}
 use Rattle.std.specs.Prelude.{IfOk}
 use Rattle.fw_flow.specs.declared.step.Step.{Step}
-use Rattle.fw_flow.specs.declared.step.Step.TheVariants.{Collect, Recover}
+use Rattle.fw_flow.specs.declared.step.Step.TheVariants.{Inject, Deliver, Notify, Progress, Checkpoint, Persist, Fail, Recover, Collect, Ack}
 use Rattle.fw_flow.specs.Dataflow.{System}
 use Rattle.fw_flow.specs.WellFormed.{IsWellFormedSystem}
 use Rattle.fw_model.specs.Auto.{auto_steps}
@@ -16,6 +16,7 @@ use Rattle.fw_running.specs.declared.fault.EngineFault.TheVariants as fault
 use Rattle.fw_running.specs.declared.running.Running.{Running}
 use Rattle.fw_running.specs.declared.stepped.Stepped.{Stepped}
 use Rattle.fw_running.specs.declared.stepped.Stepped.TheVariants.{Idle}
+use Rattle.fw_running.specs.Drawn.{supply}
 use Rattle.fw_running.specs.Faults.{is_refusal}
 use Rattle.fw_running.specs.Steps.{FollowsFirst, HasOutcome, IsStepEnabled, MayCallByItself, PartAnswers, StepAnswers, TakesFirstStep, outcome_of}
 use Rattle.fw_running.proofs.AnswerLaws.{refused-after, taken, shown, left, unharmed, first-taken, first-left, no_damage}
@@ -52,8 +53,9 @@ first-shown_right sys w state reached new after (Err e) f = tt
 pub step-answered : {K : Type 0} {view : K → StoreView} {old new : Engine} {before after : K} {step : Step} {result : Result Stepped EngineFault}
     → was_refused old ≡ false → AreAscending (ids_of (keep_of new).entries) → was_refused new ≡ is_refusal result
     → StepAnswers view old.running before step result new.running after
-    → (step ≢ Collect → StepDraws old.running (view before).records result new.running (view after).records) → EngineAnswers view old before step result new after
-step-answered {K} {view} {old} {new} {before} {after} {step} {result} live ascending told a draws =
+    → (step ≢ Collect → StepDraws old.running (view before).records result new.running (view after).records)
+    → (step ≡ Collect → supply (keep_of new) ≡ supply (keep_of old)) → EngineAnswers view old before step result new after
+step-answered {K} {view} {old} {new} {before} {after} {step} {result} live ascending told a draws undrawn =
     let records = (view before).records in
     let left_over = (view after).records in
     record {
@@ -75,6 +77,7 @@ step-answered {K} {view} {old} {new} {before} {after} {step} {result} live ascen
       unasked = a.unasked;
       idle = a.idle;
       draws = draws;
+      undrawn = undrawn;
       faults = a.faults;
       calls = a.calls;
       faulted = left old.running records step result new.running left_over a.takes;
@@ -87,6 +90,20 @@ step-answered {K} {view} {old} {new} {before} {after} {step} {result} live ascen
       told = told;
       stays = λ r. absurd (cc);
     }
+
+-- whether its store may hold records that others put, no step changes
+pub shared-stays : {K : Type 0} {view : K → StoreView} {old new : Engine} {before after : K} (step : Step) {result : Result Stepped EngineFault}
+    → EngineAnswers view old before step result new after → (keep_of new).shared ≡ (keep_of old).shared
+shared-stays (Inject s) a = (a.draws (λ is. absurd (cc))).shared
+shared-stays (Deliver e at) a = (a.draws (λ is. absurd (cc))).shared
+shared-stays (Notify p at) a = (a.draws (λ is. absurd (cc))).shared
+shared-stays Progress a = (a.draws (λ is. absurd (cc))).shared
+shared-stays (Checkpoint p) a = (a.draws (λ is. absurd (cc))).shared
+shared-stays Persist a = (a.draws (λ is. absurd (cc))).shared
+shared-stays (Fail ps) a = (a.draws (λ is. absurd (cc))).shared
+shared-stays Recover a = (a.draws (λ is. absurd (cc))).shared
+shared-stays Collect a = ap (λ (s : ℕ × Bool). s.1) (a.undrawn refl)
+shared-stays (Ack o) a = (a.draws (λ is. absurd (cc))).shared
 
 -- where memory was refused before, nothing is done
 pub step-refused : {K : Type 0} {view : K → StoreView} {engine : Engine} {store : K} {step : Step} → was_refused engine ≡ true
@@ -107,6 +124,7 @@ step-refused {K} {view} {engine} {store} refused stored ascending = record {
   unasked = λ is sys state s none. refl;
   idle = λ other is. refl;
   draws = λ other. draws-none engine.running engine.running (view store).records (Err fault.NoMemory) refl;
+  undrawn = λ is. refl;
   faults = refl;
   calls = λ e. absurd (cc);
   faulted = λ sys state s e. absurd (cc);

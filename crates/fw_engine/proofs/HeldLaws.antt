@@ -21,6 +21,7 @@ use Rattle.fw_running.specs.declared.fault.EngineFault.{EngineFault}
 use Rattle.fw_running.specs.declared.fault.EngineFault.TheVariants as fault
 use Rattle.fw_running.specs.declared.running.Running.{Running}
 use Rattle.fw_running.specs.declared.stepped.Stepped.{Stepped}
+use Rattle.fw_running.specs.Drawn.{supply}
 use Rattle.fw_running.specs.Faults.{fault_of, faults_after_step, is_refusal}
 use Rattle.fw_running.specs.Logging.{with_keep}
 use Rattle.fw_running.specs.Shaped.{IsShaped}
@@ -63,13 +64,13 @@ raise-shaped running (Err e) shaped well = absurd (cc)
 
 pub raise-answered : {E : Type 0} {old new : Engine} {result : Result Stepped E} → was_refused old ≡ false → AreAscending (ids_of (keep_of new).entries)
     → was_refused new ≡ is_err result → ((records : Option Records) → IsStored (keep_of old) records → IsStored (keep_of new) records)
-    → (running_of new).flow ≡ (running_of old).flow → (keep_of new).next ≡ (keep_of old).next
+    → (running_of new).flow ≡ (running_of old).flow → supply (keep_of new) ≡ supply (keep_of old)
     → IfOk result (λ stepped. (records : Option Records) → TakesStep (running_of old) records Collect (Ok stepped) (running_of new) records)
     → RaiseAnswers old result new
-raise-answered {E} {old} {new} {result} live ascending told stored flow next takes = record {
+raise-answered {E} {old} {new} {result} live ascending told stored flow undrawn takes = record {
   stored = stored;
   flow = flow;
-  next = next;
+  undrawn = undrawn;
   in_order = ascending;
   ok = raised old.running new.running result takes;
   told = told;
@@ -82,7 +83,7 @@ pub raise-refused : {E : Type 0} {engine : Engine} {e : E} → was_refused engin
 raise-refused refused ascending = record {
   stored = λ records stored. stored;
   flow = refl;
-  next = refl;
+  undrawn = refl;
   in_order = ascending;
   ok = λ records sys state s. tt;
   told = refused;
@@ -143,18 +144,18 @@ module _ {K : Type 0} {view : K → StoreView} where
   pub sweep-answered : {old new : Engine} {before after : K} {result : Result (Unit {0}) EngineFault} (r : Result (Unit {0}) KeepFault) → result ≡ answer_of r
       → was_refused old ≡ false → IsCatalogue (keep_of old)
       → IsTrue (was_refused new) ↔ IsErrOf r keep_fault.NoMemory → running_of new ≡ with_keep (keep_of new) (running_of old)
-      → (keep_of new).entries ≡ (keep_of old).entries → (keep_of new).next ≡ (keep_of old).next → IsStored (keep_of new) (view after).records
+      → (keep_of new).entries ≡ (keep_of old).entries → supply (keep_of new) ≡ supply (keep_of old) → IsStored (keep_of new) (view after).records
       → Sweeps (keep_of old).waiting (view before).records (keep_of new).waiting (view after).records
       → KeepsBytes (keep_of old).entries (view before).records (view after).records → OnOk r ((keep_of new).waiting ≡ [])
       → (view after).faults ≡ keep_faults_after r (view before).faults → GivesNoDamage r → SweepAnswers view old before result new after
-  sweep-answered {old} {new} {before} {after} {result} r is live well refused runs entries next stored sweeps bytes clean faults undamaged =
+  sweep-answered {old} {new} {before} {after} {result} r is live well refused runs entries undrawn stored sweeps bytes clean faults undamaged =
       let first = (view before).records in
       let last = (view after).records in
       let told = told-refused r (was_refused new) refused in
       subst (λ (x : Result (Unit {0}) EngineFault). SweepAnswers view old before x new after) (sym is) (record {
         stored = stored;
         flow = ap (λ (x : Running). x.flow) runs;
-        next = next;
+        undrawn = undrawn;
         in_order = subst (λ es. AreAscending (ids_of es)) (sym entries) well.ascending;
         stands = λ sys state s. subst (λ (x : Running). Stands sys x last state) (sym runs)
             (swept-stands sys state old.running (keep_of new) first last entries sweeps bytes s);
@@ -174,7 +175,7 @@ module _ {K : Type 0} {view : K → StoreView} where
   sweep-refused refused well stored = record {
     stored = stored;
     flow = refl;
-    next = refl;
+    undrawn = refl;
     in_order = well.ascending;
     stands = λ sys state s. s;
     swept = tt;

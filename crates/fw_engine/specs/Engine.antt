@@ -14,7 +14,7 @@ use Rattle.fw_running.specs.declared.fault.EngineFault.TheVariants as fault
 use Rattle.fw_running.specs.declared.running.Running.{Running}
 use Rattle.fw_running.specs.declared.stepped.Stepped.{Stepped}
 use Rattle.fw_running.specs.declared.stepped.Stepped.TheVariants.{Idle}
-use Rattle.fw_running.specs.Drawn.{DrawsAtMost, may_draw}
+use Rattle.fw_running.specs.Drawn.{DrawsAtMost, may_draw, supply}
 use Rattle.fw_running.specs.Faults.{faults_after_step, is_refusal}
 use Rattle.fw_running.specs.Fed.{FollowsFirstWithin}
 use Rattle.fw_running.specs.Stands.{Stands}
@@ -95,8 +95,10 @@ pub record EngineAnswers {K : Type 0} (view : K → StoreView) (old : Engine) (b
   pub quiet : (MayCallStore (flow_of old) step → ⊥) → after ≡ before
   pub unasked : step ≡ Progress → ForEachState old (view before).records (λ sys state. (AsksAWrite sys state Progress → ⊥) → after ≡ before)
   pub idle : step ≢ Collect → result ≡ Ok Idle → after ≡ before
-  -- a step that is no collection, which sweeps, changes nothing in the store but under the ids that it draws
+  -- A step that is no collection, which sweeps, changes nothing in the store but under the ids that it draws; and a collection draws none.
+  -- Whether the store may hold records that others put no step changes.
   pub draws : step ≢ Collect → StepDraws (running_of old) (view before).records result (running_of new) (view after).records
+  pub undrawn : step ≡ Collect → supply (keep_of new) ≡ supply (keep_of old)
   -- The store's count of faults rises by one at StoreFault (at 2^64 - 1 it stays), and at no other answer. StoreFault comes only in a
   -- step that may call the store: one that asks for a write in the state, a recovery that is enabled, or a collection. Then the engine
   -- stands where it stood, or where the collection led.
@@ -180,7 +182,7 @@ pub record RaiseAnswers {E : Type 0} (old : Engine) (result : Result Stepped E) 
   -- the store holds what the catalogue names, and the flow stays; no id is drawn, and the ids of what is written ascend
   pub stored : (records : Option Records) → IsStored (keep_of old) records → IsStored (keep_of new) records
   pub flow : flow_of new ≡ flow_of old
-  pub next : (keep_of new).next ≡ (keep_of old).next
+  pub undrawn : supply (keep_of new) ≡ supply (keep_of old)
   pub in_order : AreAscending (ids_of (keep_of new).entries)
   -- it goes from each state for which it stood as the machine does in a collection
   pub ok : (records : Option Records) → ForEachState old records (λ sys state. IfOk result (λ stepped. FollowsStep sys state Collect stepped new records))
@@ -194,7 +196,7 @@ pub record SweepAnswers {K : Type 0} (view : K → StoreView) (old : Engine) (be
   -- the store holds what the catalogue names, and the flow stays; no id is drawn, and the ids of what is written ascend
   pub stored : IsStored (keep_of new) (view after).records
   pub flow : flow_of new ≡ flow_of old
-  pub next : (keep_of new).next ≡ (keep_of old).next
+  pub undrawn : supply (keep_of new) ≡ supply (keep_of old)
   pub in_order : AreAscending (ids_of (keep_of new).entries)
   -- it stands where it stood, whatever is answered; where the sweep is done, nothing waits for another
   pub stands : ForEachState old (view before).records (λ sys state. StandsFor sys new (view after).records state)

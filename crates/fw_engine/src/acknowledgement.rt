@@ -3,6 +3,7 @@ ghost use Rattle.std.specs.Prelude.{◌≡◌, ◌↔◌, ◌∷◌, [], IfSome,
 ghost use Rattle.fw_flow.specs.declared.step.Step.TheVariants as steps;
 ghost use Rattle.fw_flow.specs.Dataflow.{kind_of};
 ghost use Rattle.fw_border.specs.Outputs.{AreByNumber};
+ghost use Rattle.fw_running.specs.Drawn.{supply};
 ghost use Rattle.fw_running.specs.Kept.{output_of};
 ghost use Rattle.fw_running.specs.Ready.{HasSomething, CanAcknowledge};
 ghost use Rattle.fw_running.specs.Shaped.{IsShaped};
@@ -16,7 +17,7 @@ use fw_time::Stamp;
 pub(crate) fn acknowledge(running: &mut Running, output: NodeId) -> Result<Stepped, EngineFault>
     requires shaped { IsShaped running.old }
     ensures answers { InnerAnswers running.old (steps.Ack output) result running.new }
-    ensures draws { running.new.parts.keep.next ≡ running.old.parts.keep.next }
+    ensures draws { supply running.new.parts.keep ≡ supply running.old.parts.keep }
 {
     let Some(at) = next_acknowledged(running, output) else {
         return Ok(Stepped::Idle);

@@ -9,6 +9,7 @@ ghost use Rattle.fw_running.specs.Ready.{CanAcknowledge, CanDeliver, CanInject, 
 ghost use Rattle.fw_engine.specs.Engine.{StepDraws};
 ghost use Rattle.fw_engine.specs.Searching.{with_ready_edges, with_ready_outputs, with_ready_inputs, IsSearched, IsNoticeOf, IsFirstNotified, IsAny, NoneToPersist, TakesFirstAfter, CanInjectWithin, InjectsFirst, InjectsWithin, TakesFirstWithin};
 ghost use Rattle.fw_running.specs.declared.stepped.Stepped.TheVariants.{Idle};
+ghost use Rattle.fw_running.specs.Drawn.{supply};
 ghost use Rattle.fw_running.specs.Shaped.{IsShaped};
 ghost use Rattle.fw_running.specs.Steps.{IsUndamaged, MayCallByItself, PartAnswers, StaysShaped, TakesFirstStep};
 
@@ -141,7 +142,7 @@ fn acknowledge_first(running: &mut Running) -> Result<Stepped, EngineFault>
     ensures takes { (records : Option Records) → TakesFirstAfter NoneToSettle running.old records result running.new records }
     ensures unfaulted { IsErrOf result EngineFault.StoreFault → ⊥ }
     ensures undamaged { IsUndamaged result }
-    ensures draws { running.new.parts.keep.next ≡ running.old.parts.keep.next }
+    ensures draws { supply running.new.parts.keep ≡ supply running.old.parts.keep }
 {
     match first_acknowledging(running) {
         Some(output) => acknowledge(running, output),
@@ -158,7 +159,7 @@ fn inject_first(running: &mut Running) -> Result<Stepped, EngineFault>
     ensures takes { (records : Option Records) → InjectsFirst running.old records result running.new records }
     ensures unfaulted { IsErrOf result EngineFault.StoreFault → ⊥ }
     ensures undamaged { IsUndamaged result }
-    ensures draws { running.new.parts.keep.next ≡ running.old.parts.keep.next }
+    ensures draws { supply running.new.parts.keep ≡ supply running.old.parts.keep }
 {
     match first_injecting(running) {
         Some(source) => inject(running, source),
@@ -175,7 +176,7 @@ fn inject_within(running: &mut Running, came: &[u64]) -> Result<Stepped, EngineF
     ensures takes { (records : Option Records) → InjectsWithin came.now running.old records result running.new records }
     ensures unfaulted { IsErrOf result EngineFault.StoreFault → ⊥ }
     ensures undamaged { IsUndamaged result }
-    ensures draws { running.new.parts.keep.next ≡ running.old.parts.keep.next }
+    ensures draws { supply running.new.parts.keep ≡ supply running.old.parts.keep }
 {
     match first_within(running, came) {
         Some(source) => inject(running, source),

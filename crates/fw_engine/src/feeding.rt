@@ -74,8 +74,8 @@ fn put_batch(
     Ok(true)
 }
 
-// The bag of these recs.
-fn bag_of(alloc: Global, recs: &[Rec]) -> Result<Bag, AllocError>
+/// The bag of these recs. The error is want of memory.
+pub fn bag_of(alloc: Global, recs: &[Rec]) -> Result<Bag, AllocError>
     ensures recs { IfOk result (λ bag. bag.recs ≡ sorted_recs recs.now) }
     ensures batch { IfOk result (λ bag. IsBatch bag.recs) }
 {

@@ -17,5 +17,6 @@ mod outlook;
 mod taking;
 
 pub use engine::Engine;
+pub use feeding::bag_of;
 pub use fw_choose::Outlook;
 pub use fw_running::{Effect, EngineFault, Shown, Stepped};

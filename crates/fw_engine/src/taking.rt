@@ -1,7 +1,8 @@
 //! A step is taken.
-ghost use Rattle.std.specs.Prelude.{◌≢◌};
+ghost use Rattle.std.specs.Prelude.{◌≡◌, ◌≢◌};
 ghost use Rattle.fw_flow.specs.declared.step.Step.TheVariants.{Collect};
 ghost use Rattle.fw_keep.specs.Stored.{IsStored};
+ghost use Rattle.fw_running.specs.Drawn.{supply};
 ghost use Rattle.fw_running.specs.Shaped.{IsShaped};
 ghost use Rattle.fw_running.specs.Steps.{StepAnswers};
 ghost use Rattle.fw_engine.specs.Engine.{StepDraws};
@@ -26,6 +27,7 @@ pub(crate) fn take<K: Store>(
     requires stored { IsStored running.old.parts.keep (K.view store.old).records }
     ensures answers { StepAnswers K.view running.old store.old step.now result running.new store.new }
     ensures draws { step.now ≢ Collect → StepDraws running.old (K.view store.old).records result running.new (K.view store.new).records }
+    ensures undrawn { step.now ≡ Collect → supply running.new.parts.keep ≡ supply running.old.parts.keep }
 {
     match step {
         Step::Inject(source) => inject(running, *source),

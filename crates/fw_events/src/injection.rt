@@ -4,6 +4,7 @@ ghost use Rattle.fw_flow.specs.declared.event.Event.TheVariants as events;
 ghost use Rattle.fw_flow.specs.declared.step.Step.TheVariants as steps;
 ghost use Rattle.fw_flow.specs.Dataflow.{kind_of, is_input_kind};
 ghost use Rattle.fw_progress.specs.Progress.{CanSend};
+ghost use Rattle.fw_running.specs.Drawn.{supply};
 ghost use Rattle.fw_running.specs.Kept.{source_of};
 ghost use Rattle.fw_running.specs.Shaped.{IsShaped};
 ghost use Rattle.fw_running.specs.Steps.{InnerAnswers};
@@ -24,7 +25,7 @@ use std::alloc::{AllocError, Global};
 pub fn inject(running: &mut Running, source: NodeId) -> Result<Stepped, EngineFault>
     requires shaped { IsShaped running.old }
     ensures answers { InnerAnswers running.old (steps.Inject source) result running.new }
-    ensures draws { running.new.parts.keep.next ≡ running.old.parts.keep.next }
+    ensures draws { supply running.new.parts.keep ≡ supply running.old.parts.keep }
 {
     if running.is_failed(source) || !running.flow.kind(source).is_input() {
         return Ok(Stepped::Idle);

@@ -57,6 +57,7 @@ use Rattle.fw_running.specs.Steps.{outcome_of, Follows, TakesStep}
 use Rattle.fw_running.specs.declared.stepped.Effect.TheVariants.{Quiet}
 use Rattle.fw_running.specs.declared.stepped.Stepped.{Stepped}
 use Rattle.fw_running.specs.declared.stepped.Stepped.TheVariants.{Did, Idle}
+use Rattle.fw_running.specs.Drawn.{supply}
 
 -- ---- edges one after the other
 
@@ -392,7 +393,7 @@ pub record HaveFailed (ps : List ℕ) (any : Bool) (old now : Running) : Type 0 
   pub flow : now.flow ≡ old.flow
   pub shaped : IsShaped now
   pub stored : (records : Option Records) → IsStored old.parts.keep records → IsStored now.parts.keep records
-  pub drawn : now.parts.keep.next ≡ old.parts.keep.next
+  pub drawn : supply now.parts.keep ≡ supply old.parts.keep
   pub none : any ≡ false → (now ≡ old) × AreDown old ps
   pub some : any ≡ true → HasLive old ps × StandsFailed ps old now
 
@@ -537,7 +538,7 @@ live_more ps any old now next p h there live g = record {
   flow = ap (λ (r : Running). r.flow) g.rest ∙ h.flow;
   shaped = fails-shaped now next p there g h.shaped;
   stored = λ records k. g.parts.stored records (h.stored records k);
-  drawn = ap (λ (k : KeepState). k.next) g.parts.keep ∙ h.drawn;
+  drawn = ap supply g.parts.keep ∙ h.drawn;
   none = λ e. absurd (both_ways true e refl);
   some = λ e. by any refl;
 }

@@ -5,6 +5,7 @@ ghost use Rattle.fw_keep.specs.Entry as entries;
 ghost use Rattle.fw_rollback.specs.Edges.{on_edge};
 ghost use Rattle.fw_policy.specs.Offering.{stamp_of_written, stamps_in_flight};
 ghost use Rattle.fw_fail.specs.Failing.{AreGone, IsGoneFrom, lost_after, Fails, FailsIf};
+ghost use Rattle.fw_running.specs.Drawn.{supply};
 ghost use Rattle.fw_running.specs.Kept.{is_down};
 ghost use Rattle.fw_running.specs.Shaped.{HasOneEach, IsShaped};
 ghost use Rattle.fw_running.specs.Steps.{InnerAnswers};
@@ -21,7 +22,7 @@ use std::alloc::{AllocError, Global};
 pub fn fail(running: &mut Running, nodes: &[NodeId]) -> Result<Stepped, EngineFault>
     requires shaped { IsShaped running.old }
     ensures answers { InnerAnswers running.old (steps.Fail nodes.now) result running.new }
-    ensures draws { running.new.parts.keep.next ≡ running.old.parts.keep.next }
+    ensures draws { supply running.new.parts.keep ≡ supply running.old.parts.keep }
 {
     let mut any = false;
     for node in nodes {

@@ -1,5 +1,5 @@
 -- What steps of an engine answer from which a run can start again, by what those of the engine answer.
-use Rattle.std.proofs.Common.{◌≡◌, ◌≢◌, ◌⊎◌, ℕ, ◌≤◌, true, Option, Result, Ok, Err, length, refl, sym, ap, subst, ◌∙◌, arith}
+use Rattle.std.proofs.Common.{◌≡◌, ◌≢◌, ◌⊎◌, ℕ, ◌≤◌, Bool, true, Option, Result, Ok, Err, length, refl, sym, ap, subst, ◌∙◌, arith}
 use Rattle.std.specs.Prelude.{IfOk}
 use Rattle.std.proofs.lemmas.Result.{IfOk-weaker}
 use Rattle.fw_outside.specs.Outside.{StoreView}
@@ -17,11 +17,11 @@ use Rattle.fw_running.specs.Drawn.{DrawsAtMost}
 use Rattle.fw_running.specs.Faults.{faults_after_step}
 use Rattle.fw_running.specs.Steps.{IsUndamaged}
 use Rattle.fw_running.proofs.AnswerLaws.{no_damage}
-use Rattle.fw_running.proofs.DrawnLaws.{draws_from, draws_same}
+use Rattle.fw_running.proofs.DrawnLaws.{draws_same}
 use Rattle.fw_engine.specs.declared.engine.Engine.{Engine}
 use Rattle.fw_engine.specs.Engine as engine
 use Rattle.fw_engine.specs.Engine.{StandsFor, EngineAnswers, FirstAnswers, RaiseAnswers, SweepAnswers}
-use Rattle.fw_hold.specs.Engine.{Standings, LeavesHeld, StepsHeld, StepsFirstHeld, SweepsHeld}
+use Rattle.fw_hold.specs.Engine.{KeepsOutside, Standings, LeavesHeld, StepsHeld, StepsFirstHeld, SweepsHeld}
 use Rattle.fw_held.specs.declared.restartable.RestartableEngine.{RestartableEngine}
 use Rattle.fw_held.proofs.StoreLaws.{drawn-few, drawn-outside, idle-next, none-told, stored-there}
 
@@ -50,14 +50,15 @@ module _ {K : Type 0} {view : K → StoreView} {old new : RestartableEngine} {mi
       → DrawsAtMost n (engine.keep_of mid) (keep_of new) (view before).records (view after).records
       → (view after).faults ≡ faults_after_step result (view before).faults → LeavesHeld view keep_of flow_of old before result new after
   leaves {T} {n} shared few flow stored draws faults =
-      let d : DrawsAtMost n (keep_of old) (keep_of new) (view before).records (view after).records = draws_from draws (shared-next shared) in
-      let drawn = d.few in
+      let next = shared-next shared in
+      let drawn = draws.few in
+      let back = draws.never_back in
       record {
         flow = flow ∙ shared.flow;
         stored = stored-there (keep_of new) (view after).records stored;
-        outside = drawn-outside d;
-        drawn = omega (arith, few, drawn);
-        never_back = d.never_back;
+        outside = subst (λ first. KeepsOutside first (keep_of new).next (view before).records (view after).records) next (drawn-outside draws);
+        drawn = omega (arith, few, drawn, next);
+        never_back = omega (arith, back, next);
         faults = faults;
       }
 
@@ -99,7 +100,7 @@ module _ {K : Type 0} {view : K → StoreView} {old new : RestartableEngine} {mi
   sweep-held {result} shared a = record {
     flow = a.flow ∙ shared.flow;
     stored = stored-there (keep_of new) (view after).records a.stored;
-    next = a.next ∙ shared-next shared;
+    next = ap (λ (s : ℕ × Bool). s.0) a.undrawn ∙ shared-next shared;
     stands = λ sys state s. anyway result (a.stands sys state (shared.stands (view before).records sys state s));
     swept = a.swept;
     told_before = λ told. sym a.tells ∙ told;
@@ -122,13 +123,13 @@ module _ {K : Type 0} {view : K → StoreView} {old new : RestartableEngine} {mi
   raised result shared stored a faults undamaged ok =
       let records = (view store).records in
       record {
-        leaves = leaves {n = 0} shared (omega arith) a.flow (a.stored records stored) (draws_same a.next) faults;
+        leaves = leaves {n = 0} shared (omega arith) a.flow (a.stored records stored) (draws_same a.undrawn) faults;
         ok = λ sys state s trust. IfOk-weaker result (λ stepped. engine.FollowsStep sys state Collect stepped new.engine records) _
             (λ stepped f. (f.next, f.steps, f.stands)) (ok sys state (shared.stands records sys state s));
         shows = λ sys state s. IfOk-weaker result (λ stepped. engine.FollowsStep sys state Collect stepped new.engine records) _
             (λ stepped f. (f.next, f.steps)) (ok sys state (shared.stands records sys state s));
         idle = λ e. refl;
-        none_drawn = λ e. a.next ∙ shared-next shared;
+        none_drawn = λ e. ap (λ (s : ℕ × Bool). s.0) a.undrawn ∙ shared-next shared;
         damaged = λ id e. absurd (no_damage result id undamaged e);
         in_recovery = λ id e. absurd (no_damage result id undamaged e);
         unharmed = λ id sys state s e told. no_damage result id undamaged e;

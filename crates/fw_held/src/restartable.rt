@@ -16,7 +16,8 @@ use std::alloc::{AllocError, Global};
 /// The engine, from whose steps a run can start again.
 #[derive(Drop)]
 pub struct RestartableEngine {
-    engine: Engine,
+    /// The engine.
+    pub engine: Engine,
 }
 
 impl HeldEngine for RestartableEngine {

@@ -21,12 +21,12 @@ use Rattle.fw_command.proofs.WritingLaws.{written_nothing, written_more, cut_not
 use Rattle.fw_run.specs.declared.fault.RunFault.{RunFault}
 use Rattle.fw_run.specs.declared.fault.RunFault.TheVariants as stop
 use Rattle.fw_run.specs.declared.tally.StepCounts.{StepCounts}
-use Rattle.fw_run.specs.Ends.{nowhere, seen, seen_lines, StaysUnseen, IsSeen, text_of_run, WritesLast, first_point, PrintsOfRun, NoFaults, NoneLeft, SomeLeft, IsDone, IsLastLineCut, IsStoreFault, IsDamageIn, EndsRun}
+use Rattle.fw_run.specs.Ends.{nowhere, seen, seen_lines, StaysUnseen, IsSeen, text_of_run, WritesLast, first_point, PrintsOfRun, NoFaults, NoneLeft, SomeLeft, AreKnown, BeginsText, IsDone, IsLastLineCut, IsStoreFault, IsDamageIn, EndsRun}
 use Rattle.fw_run.specs.Enduring.{Point, start_of, IsRunKnown, with_faults, RoseBy, RoseIfOn, StaysOrRose}
 use Rattle.fw_run.specs.Fault.{faults_after_run}
 use Rattle.fw_run.specs.Performing.{IsTaken, IsCountAt, WritesUntil}
 use Rattle.fw_run.specs.Reports.{Report, faults_in, reports_text}
-use Rattle.fw_run.specs.Stopping.{HoldsWrites}
+use Rattle.fw_run.specs.Stopping.{HoldsBehind}
 use Rattle.fw_run.specs.Tallies.{last_line, tally_shown, with_tally}
 use Rattle.fw_run.specs.Through.{IsSoFar, BeginsWith, AreTaken, AreCutOff, IsStoppedByOutput, IsStoppedByStore, IsStoppedByDamage, EndsItems}
 use Rattle.fw_command.specs.Command.{Start, at_first, Course, Manner}
@@ -79,14 +79,14 @@ seen_begins false bytes more lines others e = (more, refl)
 
 -- ---- items that were all taken
 
-taken_so_far : (course : Course) (Tells : Type 0) (sys : System) (from : Point) (items : List Item) (tally : StepCounts) (IsSo : Machine → Type 0) (first last : SinkView)
+taken_so_far : (course : Course) (Tells : Type 0) (sys : System) (from : Point) (items : List Item) (tally : StepCounts) (IsSo : List Item → List Report → Machine → Type 0) (first last : SinkView)
     → (u : AreTaken course Tells sys from items (length items) tally IsSo first last) → IsRunKnown course Tells sys from.state items → IsSoFar course sys from items tally u.bytes IsSo
 taken_so_far course Tells sys from items tally IsSo first last u k =
     let all : take (length items) items ≡ items = take_all (length items) items (omega arith) in
     subst (λ (xs : List Item). IsSoFar course sys from xs tally u.bytes IsSo) all (u.so_far (subst (IsRunKnown course Tells sys from.state) (sym all) k))
 
 -- what was written begins with the lines of first ones
-taken_begins : (course : Course) (Tells : Type 0) (sys : System) (from : Point) (items : List Item) (tally : StepCounts) (IsSo : Machine → Type 0) (first last : SinkView)
+taken_begins : (course : Course) (Tells : Type 0) (sys : System) (from : Point) (items : List Item) (tally : StepCounts) (IsSo : List Item → List Report → Machine → Type 0) (first last : SinkView)
     → (u : AreTaken course Tells sys from items (length items) tally IsSo first last) → (n : ℕ) → IsRunKnown course Tells sys from.state (take n items) → BeginsWith course sys from (take n items) u.bytes
 taken_begins course Tells sys from items tally IsSo first last u n k = elim (cases_lt (length items) n) [
   | inl later ↦
@@ -96,7 +96,7 @@ taken_begins course Tells sys from items tally IsSo first last u n k = elim (cas
 ]
 
 -- the text of a run that was taken so far
-text_so_far : (manner : Manner) (sys : System) (items : List Item) (tally : StepCounts) (bytes : List ℕ) (IsSo : Machine → Type 0)
+text_so_far : (manner : Manner) (sys : System) (items : List Item) (tally : StepCounts) (bytes : List ℕ) (IsSo : List Item → List Report → Machine → Type 0)
     → (s : IsSoFar manner.course sys (first_point manner sys) items tally bytes IsSo)
     → text_of_run manner (first_point manner sys) s.run.reports ≡ seen_lines manner.is_seen bytes ++ last_line manner.last tally
 text_so_far manner sys items tally bytes IsSo s =
@@ -106,7 +106,17 @@ text_so_far manner sys items tally bytes IsSo s =
 -- what was taken, as it is known
 abbrev pub IsAllTaken : Manner → Type 0 → System → List Item → StepCounts → Option Records → SinkView → SinkView → Type 0
 IsAllTaken manner Tells sys items tally records first last =
-    AreTaken manner.course Tells sys (first_point manner sys) items (length items) tally (HoldsWrites sys records) (seen manner.is_seen first) (seen manner.is_seen last)
+    AreTaken manner.course Tells sys (first_point manner sys) items (length items) tally (HoldsBehind sys records) (seen manner.is_seen first) (seen manner.is_seen last)
+
+-- what was printed of it, and what comes behind, begins with the lines of first items
+begins_of-taken : (manner : Manner) (Tells : Type 0) (sys : System) (items : List Item) (tally : StepCounts) (records : Option Records) (first middle : SinkView) (one : List ℕ)
+    → (u : IsAllTaken manner Tells sys items tally records first middle) → (n : ℕ) → AreKnown manner Tells sys (take n items)
+    → BeginsText manner sys (take n items) (seen_lines manner.is_seen u.bytes ++ one) []
+begins_of-taken manner Tells sys items tally records first middle one u n k =
+    let from = first_point manner sys in
+    let b = taken_begins manner.course Tells sys from items tally (HoldsBehind sys records) (seen manner.is_seen first) (seen manner.is_seen middle) u n k in
+    let e = seen_begins manner.is_seen u.bytes one (reports_text from.counts.steps b.run.reports) b.others b.text in
+    record { run = b.run; others = e.0; text = append-nil (seen_lines manner.is_seen u.bytes ++ one) ∙ e.1 }
 
 -- what was printed of it, with first bytes of the last line, is what the run prints
 text_of_taken : (IsCount : Bool → ℕ → Type 0) (IsLeft : List ℕ → Type 0) (manner : Manner) (Tells : Type 0) (sys : System) (items : List Item) (tally : StepCounts) (records : Option Records)
@@ -114,19 +124,17 @@ text_of_taken : (IsCount : Bool → ℕ → Type 0) (IsLeft : List ℕ → Type 
     → IsCount manner.course.goes_on tally.faults → PrintsOfRun Tells IsCount IsLeft manner sys items (seen_lines manner.is_seen u.bytes ++ one)
 text_of_taken IsCount IsLeft manner Tells sys items tally records first middle one other u parts left none is = record {
   whole = λ k.
-      let s = taken_so_far manner.course Tells sys from items tally (HoldsWrites sys records) (seen manner.is_seen first) (seen manner.is_seen middle) u k in (
+      let s = taken_so_far manner.course Tells sys from items tally (HoldsBehind sys records) (seen manner.is_seen first) (seen manner.is_seen middle) u k in (
         other,
         left,
         record {
           run = s.run;
-          text = text_so_far manner sys items tally u.bytes (HoldsWrites sys records) s ∙ ap (λ (t : List ℕ). lines ++ t) parts ∙ sym (append_assoc lines one other);
+          text = text_so_far manner sys items tally u.bytes (HoldsBehind sys records) s ∙ ap (λ (t : List ℕ). lines ++ t) parts ∙ sym (append_assoc lines one other);
           faults = subst (IsCount manner.course.goes_on) (counted_faults from tally s.run.reports (start-none manner.start sys) s.counted) is;
         },
       );
   first = λ n k.
-      let b = taken_begins manner.course Tells sys from items tally (HoldsWrites sys records) (seen manner.is_seen first) (seen manner.is_seen middle) u n k in
-      let e = seen_begins manner.is_seen u.bytes one (reports_text from.counts.steps b.run.reports) b.others b.text in
-      ([], none, record { run = b.run; others = e.0; text = append-nil (lines ++ one) ∙ e.1 });
+      ([], none, begins_of-taken manner Tells sys items tally records first middle one u n k);
 }
   where
     from : Point
@@ -146,9 +154,9 @@ done_of manner Tells sys items tally IsCount records first middle last u stays w
       printed = seen_lines manner.is_seen u.bytes ++ line;
       written = written_more (seen_lines manner.is_seen u.bytes) line first middle last (seen_written manner.is_seen u.bytes first middle u.written stays) w;
       done = λ k.
-          let s = taken_so_far manner.course Tells sys from items tally (HoldsWrites sys records) (seen manner.is_seen first) (seen manner.is_seen middle) u k in (
+          let s = taken_so_far manner.course Tells sys from items tally (HoldsBehind sys records) (seen manner.is_seen first) (seen manner.is_seen middle) u k in (
             s.run,
-            sym (text_so_far manner sys items tally u.bytes (HoldsWrites sys records) s),
+            sym (text_so_far manner sys items tally u.bytes (HoldsBehind sys records) s),
             subst IsCount (counted_faults from tally s.run.reports (start-none manner.start sys) s.counted) is,
             s.so,
           );
@@ -161,15 +169,23 @@ last_line_cut : (manner : Manner) (Tells : Type 0) (sys : System) (items : List 
 last_line_cut manner Tells sys items tally IsCount records first middle last NoMemory e u stays c is = absurd (cc)
 last_line_cut manner Tells sys items tally IsCount records first middle last Failed e u stays c is =
     let from = first_point manner sys in
-    let cut = line_cut (seen_lines manner.is_seen u.bytes) (last_line manner.last tally) Failed first middle last (seen_written manner.is_seen u.bytes first middle u.written stays) c in
-    λ k.
-    let s = taken_so_far manner.course Tells sys from items tally (HoldsWrites sys records) (seen manner.is_seen first) (seen manner.is_seen middle) u k in (
-      s.run,
-      subst (λ (t : StepCounts). IsCutIn (seen_lines manner.is_seen (reports_text from.counts.steps s.run.reports)) (last_line manner.last t) Failed first last) s.counted
-          (subst (λ (t : List ℕ). IsCutIn (seen_lines manner.is_seen t) (last_line manner.last tally) Failed first last) s.text cut),
-      subst IsCount (counted_faults from tally s.run.reports (start-none manner.start sys) s.counted) is,
-      s.so,
-    )
+    let lines = seen_lines manner.is_seen u.bytes in
+    let written = seen_written manner.is_seen u.bytes first middle u.written stays in
+    let part = taken_part (last_line manner.last tally) Failed middle last c in
+    let cut = line_cut lines (last_line manner.last tally) Failed first middle last written c in
+    record {
+      printed = lines ++ part.one;
+      written = taken_more lines part.one Failed first middle last written part.taken;
+      first = λ n k. begins_of-taken manner Tells sys items tally records first middle part.one u n k;
+      cut = λ k.
+          let s = taken_so_far manner.course Tells sys from items tally (HoldsBehind sys records) (seen manner.is_seen first) (seen manner.is_seen middle) u k in (
+            s.run,
+            subst (λ (t : StepCounts). IsCutIn (seen_lines manner.is_seen (reports_text from.counts.steps s.run.reports)) (last_line manner.last t) Failed first last) s.counted
+                (subst (λ (t : List ℕ). IsCutIn (seen_lines manner.is_seen t) (last_line manner.last tally) Failed first last) s.text cut),
+            subst IsCount (counted_faults from tally s.run.reports (start-none manner.start sys) s.counted) is,
+            s.so,
+          );
+    }
 
 -- ---- answers
 

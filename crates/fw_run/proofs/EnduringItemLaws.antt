@@ -179,7 +179,7 @@ through-taken course old new before after item counted counts Never IsCount valu
   taken = p.taken;
   does = λ sys state st trusts.
       let t = p.does sys state st trusts in
-      record { of_item = of_any course sys state item t.of_item; text = t.text; counted = t.counted; stands = t.stands };
+      record { of_item = of_any course sys state item t.of_item; text = t.text; counted = t.counted; stands = t.stands; swept = t.swept };
 }
 
 -- how often the store failed where it does not end the run
@@ -209,6 +209,7 @@ through-stopped course (stop.Out f) old new before after item counted counts Nev
               cut = c.cut;
               faults = subst IsCount (sym c.of_item.may) none;
               stands = c.stands;
+              swept = c.swept;
             },
       );
 }
@@ -234,7 +235,7 @@ through-fault course old new before after item counted counts Never IsCount valu
   taken = written_more p.bytes (fault_line (counts.steps + 1)) first mid last p.taken w;
   does = λ sys state st trusts.
       let f = item_faulted course.showing sys state item counted counts p.bytes (StandsFor sys new after) (calls sys state st) (p.does sys state st).0 in
-      record { of_item = of_on course sys state item on f.of_item; text = sym f.text; counted = f.counted; stands = f.so };
+      record { of_item = of_on course sys state item on f.of_item; text = sym f.text; counted = f.counted; stands = f.so; swept = λ is none. absurd (omega (arith, f.once, none)) };
 }
 
 -- or the line was cut off
@@ -271,6 +272,7 @@ through-fault_cut course old new before after item counted counts Never IsCount 
               };
               faults = subst IsCount (sym g.once) once;
               stands = g.so;
+              swept = λ is none. absurd (omega (arith, g.once, none));
             },
           );
     }

@@ -6,7 +6,7 @@ use Rattle.std.specs.Result.{IsErrOf}
 use Rattle.fw_outside.specs.declared.fault.OutFault.{OutFault}
 use Rattle.fw_outside.specs.Outside.{SinkView}
 use Rattle.fw_flow.specs.declared.step.Step.{Step}
-use Rattle.fw_flow.specs.declared.step.Step.TheVariants.{Recover}
+use Rattle.fw_flow.specs.declared.step.Step.TheVariants.{Collect, Recover}
 use Rattle.fw_flow.specs.Dataflow.{Dataflow, System}
 use Rattle.fw_schedule.specs.declared.item.Item.{Item}
 use Rattle.fw_schedule.specs.declared.item.Item.TheVariants.{One, Auto}
@@ -23,7 +23,7 @@ use Rattle.fw_running.specs.declared.stepped.Stepped.TheVariants.{Did, Idle}
 use Rattle.fw_running.specs.EffectText.{outcome_text}
 use Rattle.fw_running.specs.Steps.{effect_of, outcome_of, FirstMayCall, IsStepEnabled, Trusts, IsLeftBy}
 use Rattle.fw_engine.specs.declared.engine.Engine.{Engine}
-use Rattle.fw_engine.specs.Engine.{flow_of, StandsFor, FollowsStep, FollowsFirstStep}
+use Rattle.fw_engine.specs.Engine.{flow_of, keep_of, StandsFor, FollowsStep, FollowsFirstStep}
 use Rattle.fw_run.proofs.ItemLaws.{item-run}
 use Rattle.fw_run.proofs.ReasonLaws.{auto-told, lines-with}
 use Rattle.fw_run.proofs.ReportLaws.{reports_text-append, shown-run, shown-faults, shown-on, some_reports}
@@ -51,6 +51,10 @@ none_at (fault.Damaged id) = refl
 none_at fault.NoMemory = refl
 
 -- ---- a step
+
+-- an item that is one step is no other one
+same_step : (step other : Step) → One step ≡ One other → step ≡ other
+same_step step other is = cc
 
 -- what a fault of the engine in a step leaves
 step_left : (old new : Engine) (before after : Option Records) (step : Step) (f : EngineFault)
@@ -120,9 +124,9 @@ AreTold showing engine records step behind = (sys : System) (state : Machine) �
 pub step_begun : (showing : Showing) (old new : Engine) (before after : Option Records) (step : Step) (tally counts : StepCounts) (flow : Dataflow) (stepped : Stepped) (behind : List ℕ) (f : OutFault)
     (first last : SinkView) → flow ≡ flow_of new → AreTold showing old before step behind
     → ((sys : System) (state : Machine) → StandsFor sys old before state → Trusts sys state step after → FollowsStep sys state step stepped new after)
-    → IsCutOff (outcome_text flow (outcome_of stepped) ++ behind) f first last
+    → (step ≡ Collect → (keep_of new).waiting ≡ []) → IsCutOff (outcome_text flow (outcome_of stepped) ++ behind) f first last
     → PrintsItem (up_to_fault showing) old before (One step) tally IsNone (Err (stop.Out f)) new after counts first last
-step_begun showing old new before after step tally counts flow stepped behind f first last e told follows c =
+step_begun showing old new before after step tally counts flow stepped behind f first last e told follows swept c =
     let part = taken_part (outcome_text flow (outcome_of stepped) ++ behind) f first last c in
     record {
       bytes = part.one;
@@ -148,6 +152,7 @@ step_begun showing old new before after step tally counts flow stepped behind f 
               };
               faults = refl;
               stands = next.stands;
+              swept = λ is none. swept (same_step step Collect is);
             },
           );
     }
@@ -156,9 +161,9 @@ step_begun showing old new before after step tally counts flow stepped behind f 
 pub step_taken : (showing : Showing) (old new : Engine) (before after : Option Records) (step : Step) (tally counts : StepCounts) (flow : Dataflow) (stepped : Stepped) (behind : List ℕ)
     (value : Unit {0}) (first last : SinkView) → flow ≡ flow_of new → AreTold showing old before step behind
     → ((sys : System) (state : Machine) → StandsFor sys old before state → Trusts sys state step after → FollowsStep sys state step stepped new after)
-    → counts ≡ with_tally tally (tally_of (outcome_of stepped ∷ [])) → IsWritten (outcome_text flow (outcome_of stepped) ++ behind) first last
+    → (step ≡ Collect → (keep_of new).waiting ≡ []) → counts ≡ with_tally tally (tally_of (outcome_of stepped ∷ [])) → IsWritten (outcome_text flow (outcome_of stepped) ++ behind) first last
     → PrintsItem (up_to_fault showing) old before (One step) tally IsNone (Ok value) new after counts first last
-step_taken showing old new before after step tally counts flow stepped behind value first last e told follows i w = record {
+step_taken showing old new before after step tally counts flow stepped behind value first last e told follows swept i w = record {
   bytes = outcome_text flow (outcome_of stepped) ++ behind;
   taken = w;
   does = λ sys state st trusts.
@@ -168,6 +173,7 @@ step_taken showing old new before after step tally counts flow stepped behind va
         text = line_of-step sys flow new after next.next (outcome_of stepped) behind tally.steps e next.stands;
         counted = i;
         stands = next.stands;
+        swept = λ is none. swept (same_step step Collect is);
       };
 }
 
@@ -278,6 +284,7 @@ auto-ends showing old mid new before between after Idle count most tally counts 
         text = g.text;
         counted = g.counted;
         stands = subst (StandsFor sys new after) f.takes.1 f.stands;
+        swept = λ is none. absurd (cc);
       };
 }
 
@@ -294,6 +301,7 @@ auto-full showing old new before after count most tally counts value first last 
         text = g.text;
         counted = g.counted;
         stands = g.stands;
+        swept = λ is none. absurd (cc);
       };
 }
 
@@ -350,6 +358,7 @@ auto_begun showing old mid new before between after flow (Did shown) count most 
               };
               faults = shown-faults showing sys state one.now one.steps one.reports (one.run showing);
               stands = one.stands;
+              swept = λ is none. absurd (cc);
             },
           );
     }

@@ -16,7 +16,7 @@ use Rattle.fw_schedule.specs.declared.item.Item.TheVariants.{One, Auto}
 use Rattle.fw_model.specs.Machine.{Machine}
 use Rattle.fw_model.specs.Reached.{IsReached}
 use Rattle.fw_keep.specs.Catalogue.{AreAscending, ids_of}
-use Rattle.fw_keep.specs.Stored.{Records, SpellsNone}
+use Rattle.fw_keep.specs.Stored.{Records, IsStored, SpellsNone}
 use Rattle.fw_running.specs.declared.fault.EngineFault.TheVariants as fault
 use Rattle.fw_running.specs.Steps.{IsLeftBy, IsStepEnabled}
 use Rattle.fw_engine.specs.declared.engine.Engine.{Engine}
@@ -25,8 +25,9 @@ use Rattle.fw_run.proofs.EnduringLaws.{endured-none, endured-next, goes-on, run_
 use Rattle.fw_run.proofs.FaultCounts.{rose_more}
 use Rattle.fw_run.proofs.PlaceLaws.{parts_at, one_more-item, take_take}
 use Rattle.fw_run.proofs.ReportLaws.{faults-append, reached-on, reports_text-append, no_reports}
-use Rattle.fw_run.proofs.StandingLaws.{holds-writes}
+use Rattle.fw_run.proofs.StandingLaws.{StandsBehind, holds-behind, holds-writes}
 use Rattle.fw_run.proofs.StoppedLaws.{stopped_begun, none_told}
+use Rattle.fw_run.proofs.SweptLaws.{last-swept, none-swept, part_swept}
 use Rattle.fw_run.proofs.TallyLaws.{counted-none, counted-more}
 use Rattle.fw_run.proofs.TakenLaws.{taken_more, taken_on}
 use Rattle.fw_command.proofs.WritingLaws.{written_nothing, written_more}
@@ -36,7 +37,7 @@ use Rattle.fw_run.specs.declared.tally.StepCounts.{StepCounts}
 use Rattle.fw_run.specs.Enduring.{Point, EnduredRun, IsRunKnown, RoseBy}
 use Rattle.fw_run.specs.Performing.{IsCutAfter, IsTaken, TrustsItem, IsLeftAfter, IsItemTaken, IsItemBegun, IsCountAt, DoesItem, PrintsItem}
 use Rattle.fw_run.specs.Reports.{Report, faults_in, outcomes_in, reports_text, AreCutInLast}
-use Rattle.fw_run.specs.Stopping.{HoldsWrites, MayCallIn, IsLeftIn}
+use Rattle.fw_run.specs.Stopping.{HoldsBehind, HoldsWrites, MayCallIn, IsLeftIn}
 use Rattle.fw_run.specs.Tallies.{tally_shown, with_tally}
 use Rattle.fw_run.specs.Through.{IsSoFar, BeginsWith, AgreesWith, IsPartOfLines, AreTaken, AreCutOff, CutsIn, IsStoppedByOutput, StopsIn, IsStoppedByStore, IsStoppedByDamage, EndsItems}
 use Rattle.fw_command.specs.Command.{Course}
@@ -61,7 +62,7 @@ begins-more course sys from items bytes more b = record {
   text = ap (λ (t : List ℕ). t ++ more) b.text ∙ append_assoc (reports_text from.counts.steps b.run.reports) b.others more;
 }
 
-begins-all : (course : Course) (sys : System) (from : Point) (items : List Item) (tally : StepCounts) (bytes : List ℕ) (IsSo : Machine → Type 0) → IsSoFar course sys from items tally bytes IsSo
+begins-all : (course : Course) (sys : System) (from : Point) (items : List Item) (tally : StepCounts) (bytes : List ℕ) (IsSo : List Item → List Report → Machine → Type 0) → IsSoFar course sys from items tally bytes IsSo
     → BeginsWith course sys from items bytes
 begins-all course sys from items tally bytes IsSo s =
     record { run = s.run; others = []; text = s.text ∙ sym (append-nil (reports_text from.counts.steps s.run.reports)) }
@@ -69,7 +70,7 @@ begins-all course sys from items tally bytes IsSo s =
 -- ---- one item more
 
 pub taken-none : (course : Course) (Tells : Type 0) (sys : System) (from : Point) (items : List Item) (engine : Engine) (records : Option Records) (tally : StepCounts) (view : SinkView)
-    → from.counts ≡ tally → tally.sum < 2 ^ 64 → StandsFor sys engine records from.state → AreTaken course Tells sys from items 0 tally (StandsFor sys engine records) view view
+    → from.counts ≡ tally → tally.sum < 2 ^ 64 → StandsFor sys engine records from.state → AreTaken course Tells sys from items 0 tally (StandsBehind sys engine records) view view
 taken-none course Tells sys from items engine records tally view e fits st = record {
   bytes = [];
   written = written_nothing view;
@@ -77,7 +78,7 @@ taken-none course Tells sys from items engine records tally view e fits st = rec
     run = endured-none course sys from.state;
     text = refl;
     counted = counted-none tally fits ∙ ap (λ (c : StepCounts). with_tally c (tally_shown [])) (sym e);
-    so = st;
+    so = (st, λ swept. absurd (none-swept [] swept));
   };
   begins = λ n h k. begins-none course sys from items n h;
 }
@@ -88,8 +89,8 @@ number_of from tally reports e = ap (λ (c : StepCounts). c.steps) e
 
 -- an item was taken after others
 so_far-next : (course : Course) (sys : System) (from : Point) (items : List Item) (item : Item) (old new : Engine) (before after : Option Records) (tally counts : StepCounts) (bytes others : List ℕ)
-    → (s : IsSoFar course sys from items tally bytes (StandsFor sys old before)) → IsItemTaken course sys s.run.last item tally counts others new after
-    → IsSoFar course sys from (items ++ item ∷ []) counts (bytes ++ others) (StandsFor sys new after)
+    → (s : IsSoFar course sys from items tally bytes (StandsBehind sys old before)) → IsItemTaken course sys s.run.last item tally counts others new after
+    → IsSoFar course sys from (items ++ item ∷ []) counts (bytes ++ others) (StandsBehind sys new after)
 so_far-next course sys from items item old new before after tally counts bytes others s t =
     let earlier = s.run.reports in
     let later = t.of_item.reports in
@@ -99,13 +100,18 @@ so_far-next course sys from items item old new before after tally counts bytes o
           ∙ ap (λ (b : List ℕ). reports_text from.counts.steps earlier ++ b) (t.text ∙ ap (λ (n : ℕ). reports_text n later) (number_of from tally earlier s.counted))
           ∙ sym (reports_text-append from.counts.steps earlier later);
       counted = t.counted ∙ ap (λ (c : StepCounts). with_tally c (tally_shown later)) s.counted ∙ counted-more from.counts earlier later;
-      so = t.stands;
+      so = (
+        t.stands,
+        λ swept.
+            let last = last-swept course sys s.run.last items item earlier t.of_item swept in
+            t.swept last.0 last.1,
+      );
     }
 
 pub taken-more : (course : Course) (Tells : Type 0) (sys : System) (from : Point) (items : List Item) (i : ℕ) (old new : Engine) (before after : Option Records) (item : Item) (tally counts : StepCounts)
-    (IsCount : ℕ → Type 0) (value : Unit {0}) (first middle last : SinkView) → (Tells → IsSome after) → AreTaken course Tells sys from items i tally (StandsFor sys old before) first middle
+    (IsCount : ℕ → Type 0) (value : Unit {0}) (first middle last : SinkView) → (Tells → IsSome after) → AreTaken course Tells sys from items i tally (StandsBehind sys old before) first middle
     → i < length items → item ≡ get_or items i item → PrintsItem course old before item tally IsCount (Ok value) new after counts middle last
-    → AreTaken course Tells sys from items (i + 1) counts (StandsFor sys new after) first last
+    → AreTaken course Tells sys from items (i + 1) counts (StandsBehind sys new after) first last
 taken-more course Tells sys from items i old new before after item tally counts IsCount value first middle last told u below e p = record {
   bytes = u.bytes ++ p.bytes;
   written = written_more u.bytes p.bytes first middle last u.written p.taken;
@@ -113,13 +119,13 @@ taken-more course Tells sys from items i old new before after item tally counts 
   begins = begins;
 }
   where
-    so_far : IsRunKnown course Tells sys from.state (take (i + 1) items) → IsSoFar course sys from (take (i + 1) items) counts (u.bytes ++ p.bytes) (StandsFor sys new after)
+    so_far : IsRunKnown course Tells sys from.state (take (i + 1) items) → IsSoFar course sys from (take (i + 1) items) counts (u.bytes ++ p.bytes) (StandsBehind sys new after)
     so_far k =
         let at = one_more-item items i item below e in
         let s = u.so_far (known_before course Tells sys from.state i (i + 1) items (omega arith) k) in
         let trusts = run_trusts course Tells sys from.state (take i items) item after told (subst (IsRunKnown course Tells sys from.state) at k) s.run in
-        subst (λ (xs : List Item). IsSoFar course sys from xs counts (u.bytes ++ p.bytes) (StandsFor sys new after)) (sym at)
-        (so_far-next course sys from (take i items) item old new before after tally counts u.bytes p.bytes s (p.does sys s.run.last s.so trusts))
+        subst (λ (xs : List Item). IsSoFar course sys from xs counts (u.bytes ++ p.bytes) (StandsBehind sys new after)) (sym at)
+        (so_far-next course sys from (take i items) item old new before after tally counts u.bytes p.bytes s (p.does sys s.run.last s.so.0 trusts))
 
     begins : (n : ℕ) → n ≤ i + 1 → IsRunKnown course Tells sys from.state (take n items) → BeginsWith course sys from (take n items) (u.bytes ++ p.bytes)
     begins n h k = elim (cases_lt i n) [
@@ -127,21 +133,26 @@ taken-more course Tells sys from items i old new before after item tally counts 
           let same : n ≡ i + 1 = omega (arith, h, later) in
           let s = so_far (subst (λ (m : ℕ). IsRunKnown course Tells sys from.state (take m items)) same k) in
           subst (λ (m : ℕ). BeginsWith course sys from (take m items) (u.bytes ++ p.bytes)) (sym same)
-          (begins-all course sys from (take (i + 1) items) counts (u.bytes ++ p.bytes) (StandsFor sys new after) s)
+          (begins-all course sys from (take (i + 1) items) counts (u.bytes ++ p.bytes) (StandsBehind sys new after) s)
       | inr among ↦ begins-more course sys from (take n items) u.bytes p.bytes (u.begins n among k)
     ]
 
--- all items were taken, and the store holds the writes of the last state
+-- all items were taken, and the store holds the writes of the last state, and behind a collection no others
 pub taken-all : (course : Course) (Tells : Type 0) (sys : System) (from : Point) (items : List Item) (i : ℕ) (engine : Engine) (records : Option Records) (tally : StepCounts) (first last : SinkView)
-    → AreAscending (ids_of (keep_of engine).entries) → AreTaken course Tells sys from items i tally (StandsFor sys engine records) first last → length items ≤ i
-    → AreTaken course Tells sys from items (length items) tally (HoldsWrites sys records) first last
-taken-all course Tells sys from items i engine records tally first last ordered u h = record {
+    → AreAscending (ids_of (keep_of engine).entries) → IsStored (keep_of engine) records → (keep_of engine).shared ≡ false
+    → AreTaken course Tells sys from items i tally (StandsBehind sys engine records) first last → length items ≤ i
+    → AreTaken course Tells sys from items (length items) tally (HoldsBehind sys records) first last
+taken-all course Tells sys from items i engine records tally first last ordered stored alone u h = record {
   bytes = u.bytes;
   written = u.written;
   so_far = λ k.
       let s = u.so_far (subst (IsRunKnown course Tells sys from.state) same k) in
-      subst (λ (xs : List Item). IsSoFar course sys from xs tally u.bytes (HoldsWrites sys records)) (sym same)
-      (record { run = s.run; text = s.text; counted = s.counted; so = holds-writes sys engine ordered records s.run.last s.so });
+      subst (λ (xs : List Item). IsSoFar course sys from xs tally u.bytes (HoldsBehind sys records)) (sym same) (record {
+        run = s.run;
+        text = s.text;
+        counted = s.counted;
+        so = holds-behind sys engine ordered records stored alone (take i items) s.run.reports s.run.last s.so;
+      });
   begins = λ n among k. u.begins n (omega (arith, among, h)) k;
 }
   where
@@ -153,7 +164,7 @@ taken-known : (course : Course) (Tells Still : Type 0) (sys : System) (state : M
 taken-known course Tells Still sys state items so (inl still) = inl (so still)
 taken-known course Tells Still sys state items so (inr none) = inr none
 
-pub taken-told : {course : Course} {Tells Still : Type 0} {sys : System} {from : Point} {items : List Item} {i : ℕ} {tally : StepCounts} {IsSo : Machine → Type 0} {first last : SinkView}
+pub taken-told : {course : Course} {Tells Still : Type 0} {sys : System} {from : Point} {items : List Item} {i : ℕ} {tally : StepCounts} {IsSo : List Item → List Report → Machine → Type 0} {first last : SinkView}
     → (Still → Tells) → AreTaken course Tells sys from items i tally IsSo first last → AreTaken course Still sys from items i tally IsSo first last
 taken-told {course} {Tells} {Still} {sys} {from} {items} {i} so u = record {
   bytes = u.bytes;
@@ -214,7 +225,7 @@ counted_faults from tally reports none e =
 -- the run stops in the item of this place
 pub cut_off-at : (course : Course) (Tells : Type 0) (sys : System) (from : Point) (items : List Item) (i : ℕ) (old new : Engine) (before after : Option Records) (item : Item) (tally counts : StepCounts)
     (a b c : ℕ) (f : RunFault) (first middle last : SinkView) → IsWellFormedSystem sys → IsReached sys from.state → from.counts.faults ≡ 0 → (Tells → IsSome after)
-    → AreTaken course Tells sys from items i tally (StandsFor sys old before) first middle → i < length items → item ≡ get_or items i item
+    → AreTaken course Tells sys from items i tally (StandsBehind sys old before) first middle → i < length items → item ≡ get_or items i item
     → PrintsItem course old before item tally (RoseBy b c) (Err f) new after counts middle last → RoseBy a b tally.faults
     → AreCutOff course Tells sys from items f (RoseBy a c) first last
 cut_off-at course Tells sys from items i old new before after item tally counts a b c f first middle last w reached unfailed told u below e p rose = record {
@@ -232,7 +243,7 @@ cut_off-at course Tells sys from items i old new before after item tally counts 
         let steps = from.counts.steps in
         let trusts = run_trusts course Tells sys from.state (take i items) item after told known r in
         let there = reached-on sys from.state r.last r.steps (outcomes_in r.reports) reached r.run in
-        let broken = fault_broken course sys item r.last tally counts p.bytes (RoseBy b c) f new after w there trusts (p.does sys r.last s.so) in
+        let broken = fault_broken course sys item r.last tally counts p.bytes (RoseBy b c) f new after w there trusts (p.does sys r.last s.so.0) in
         let next = endured-next course sys from.state (take i items) item r broken.of_item in
         let later = broken.of_item.reports in
         let lines : reports_text steps next.reports ≡ (u.bytes ++ p.bytes) ++ broken.others =
@@ -295,19 +306,22 @@ cut_behind before reports more bytes others fault first last e c t =
 
 -- the output stops the run in the item of this place
 output_stops : (course : Course) (Tells : Type 0) (sys : System) (from : Point) (items : List Item) (i : ℕ) (old new : Engine) (before after : Option Records) (item : Item) (tally counts : StepCounts)
-    (a b c : ℕ) (first middle last : SinkView) → from.counts.faults ≡ 0 → (Tells → IsSome after) → AreTaken course Tells sys from items i tally (StandsFor sys old before) first middle
-    → i < length items → item ≡ get_or items i item → AreAscending (ids_of (keep_of new).entries)
+    (a b c : ℕ) (first middle last : SinkView) → from.counts.faults ≡ 0 → (Tells → IsSome after) → AreTaken course Tells sys from items i tally (StandsBehind sys old before) first middle
+    → i < length items → item ≡ get_or items i item → AreAscending (ids_of (keep_of new).entries) → IsStored (keep_of new) after → (keep_of new).shared ≡ false
     → PrintsItem course old before item tally (RoseBy b c) (Err (stop.Out output.Failed)) new after counts middle last → RoseBy a b tally.faults
     → IsStoppedByOutput course Tells sys from items after (RoseBy a c) first last
-output_stops course Tells sys from items i old new before after item tally counts a b c first middle last unfailed told u below e ordered p rose = record {
+output_stops course Tells sys from items i old new before after item tally counts a b c first middle last unfailed told u below e ordered stored alone p rose = record {
+  printed = u.bytes ++ p.bytes;
+  written = taken_more u.bytes p.bytes output.Failed first middle last u.written p.taken;
   earlier = take i items;
   item = item;
   later = drop (i + 1) items;
   parts = parts_at items i item below e;
+  first = λ n h k. begins-more course sys from (take n items) u.bytes p.bytes (u.begins n (omega (arith, h, length-take-le i items (omega (arith, below)))) k);
   stops = λ k.
       let s = u.so_far (run_known-less course Tells sys from.state (take i items) (item ∷ []) k) in
       let r = s.run in
-      let d = (p.does sys r.last s.so (run_trusts course Tells sys from.state (take i items) item after told k r)).1 refl in
+      let d = (p.does sys r.last s.so.0 (run_trusts course Tells sys from.state (take i items) item after told k r)).1 refl in
       let cut = subst (λ (n : ℕ). AreCutInLast n d.of_item.reports p.bytes) (number_of from tally r.reports s.counted) d.cut in
       let behind = cut_behind from.counts.steps r.reports d.of_item.reports u.bytes p.bytes output.Failed first last s.text cut (taken_more u.bytes p.bytes output.Failed first middle last u.written p.taken) in
       let faults : tally.faults + faults_in d.of_item.reports ≡ faults_in (r.reports ++ d.of_item.reports) =
@@ -321,7 +335,12 @@ output_stops course Tells sys from items i old new before after item tally count
         reports = behind.0;
         written = behind.1;
         faults = subst (RoseBy a c) faults (rose_more a b c tally.faults (faults_in d.of_item.reports) rose d.faults);
-        so = holds-writes sys new ordered after d.of_item.last d.stands;
+        so = holds-behind sys new ordered after stored alone (take i items ++ d.part ∷ []) (r.reports ++ d.of_item.reports) d.of_item.last (
+          d.stands,
+          λ swept.
+              let last = last-swept course sys r.last (take i items) d.part r.reports d.of_item swept in
+              d.swept (part_swept item d.part d.begun last.0) last.1,
+        );
       };
 }
 
@@ -346,7 +365,7 @@ left_in sys state (Auto most) P Q f l = (l.0, f state l.1)
 
 -- the store stops the run in the item of this place
 store_stops : (course : Course) (Tells : Type 0) (sys : System) (from : Point) (items : List Item) (i : ℕ) (old new : Engine) (before after : Option Records) (item : Item) (tally counts : StepCounts)
-    (IsCount : ℕ → Type 0) (first middle last : SinkView) → AreTaken course Tells sys from items i tally (StandsFor sys old before) first middle → i < length items
+    (IsCount : ℕ → Type 0) (first middle last : SinkView) → AreTaken course Tells sys from items i tally (StandsBehind sys old before) first middle → i < length items
     → item ≡ get_or items i item → MayCallIn sys.flow item → AreAscending (ids_of (keep_of new).entries)
     → PrintsItem course old before item tally IsCount (Err (stop.Engine fault.StoreFault)) new after counts middle last
     → IsStoppedByStore course Tells sys from items after (λ printed. IsWritten printed first last)
@@ -362,7 +381,7 @@ store_stops course Tells sys from items i old new before after item tally counts
   stops = λ k.
       let s = u.so_far k in
       let r = s.run in
-      let t = (p.does sys r.last s.so).0 in
+      let t = (p.does sys r.last s.so.0).0 in
       record {
         before = r;
         begun = t.begun;
@@ -381,7 +400,7 @@ store_stops course Tells sys from items i old new before after item tally counts
 
 damage_stops : (course : Course) (Tells : Type 0) (sys : System) (from : Point) (items : List Item) (i id : ℕ) (old new : Engine) (before after : Option Records) (given : Option (ℕ × List ℕ))
     (tally counts : StepCounts) (a b c : ℕ) (first middle last : SinkView) → from.counts.faults ≡ 0 → (Tells → IsSome after)
-    → AreTaken course Tells sys from items i tally (StandsFor sys old before) first middle → i < length items
+    → AreTaken course Tells sys from items i tally (StandsBehind sys old before) first middle → i < length items
     → items ≡ take i items ++ One Recover ∷ drop (i + 1) items → flow_of old ≡ sys.flow
     → PrintsItem course old before (One Recover) tally (RoseBy b c) (Err (stop.Engine (fault.Damaged id))) new after counts middle last → IsDamaged old id given → RoseBy a b tally.faults
     → IsStoppedByDamage course Tells sys from items id given (RoseBy a c) (λ printed. IsWritten printed first last)
@@ -393,7 +412,7 @@ damage_stops course Tells sys from items i id old new before after given tally c
   parts = parts;
   untold = λ tells.
       let s = u.so_far (inl tells) in
-      let t = (p.does sys s.run.last s.so).0 in
+      let t = (p.does sys s.run.last s.so.0).0 in
       none_told after t.so.0 (told tells);
   entry = d.entry;
   named = d.named;
@@ -404,37 +423,38 @@ damage_stops course Tells sys from items i id old new before after given tally c
   stops = λ k.
       let s = u.so_far k in
       let state = s.run.last in
-      let found = p.does sys state s.so in
+      let found = p.does sys state s.so.0 in
       let t = found.0 in
       let none : t.reports ≡ [] = no_reports course.showing sys state t.now t.begun t.reports t.begins.0 t.run in
       let nothing : p.bytes ≡ [] = t.text ∙ ap (λ (rs : List Report). reports_text tally.steps rs) none in
       let text : u.bytes ++ p.bytes ≡ reports_text from.counts.steps s.run.reports = ap (λ (b : List ℕ). u.bytes ++ b) nothing ∙ append-nil u.bytes ∙ s.text in
       let enabled : IsStepEnabled sys state Recover = subst (λ (m : Machine). IsStepEnabled sys m Recover) t.begins.1 t.so.1 in
       let count_now : RoseBy a c tally.faults = found.1 ∙ rose in
-      (s.run, text, subst (RoseBy a c) (counted_faults from tally s.run.reports unfailed s.counted) count_now, (enabled, (keep_of old).entries, s.so.apart.entries, d.there, d.asked sys before state s.so));
+      (s.run, text, subst (RoseBy a c) (counted_faults from tally s.run.reports unfailed s.counted) count_now, (enabled, (keep_of old).entries, s.so.0.apart.entries, d.there, d.asked sys before state s.so.0));
 }
 
 -- what ends the run in the item of this place
 pub ends-at : (course : Course) (Tells : Type 0) (sys : System) (from : Point) (items : List Item) (i : ℕ) (start old new : Engine) (begun before after : Option Records) (given : Option (ℕ × List ℕ))
     (item : Item) (tally counts : StepCounts) (a b c : ℕ) (f : RunFault) (first middle last : SinkView) → StandsFor sys start begun from.state → flow_of old ≡ flow_of start → from.counts.faults ≡ 0
-    → (Tells → IsSome after) → AreTaken course Tells sys from items i tally (StandsFor sys old before) first middle → i < length items → item ≡ get_or items i item
-    → AreAscending (ids_of (keep_of new).entries) → PrintsItem course old before item tally (RoseBy b c) (Err f) new after counts middle last → RoseBy a b tally.faults
+    → (Tells → IsSome after) → AreTaken course Tells sys from items i tally (StandsBehind sys old before) first middle → i < length items → item ≡ get_or items i item
+    → AreAscending (ids_of (keep_of new).entries) → IsStored (keep_of new) after → (keep_of new).shared ≡ false
+    → PrintsItem course old before item tally (RoseBy b c) (Err f) new after counts middle last → RoseBy a b tally.faults
     → (IsErrOf {T = Unit {0}} (Err f) (stop.Engine fault.StoreFault) → (course.goes_on ≡ false) × MayCallIn (flow_of old) item)
     → ((id : ℕ) → IsErrOf {T = Unit {0}} (Err f) (stop.Engine (fault.Damaged id)) → item ≡ One Recover)
     → ((id : ℕ) → IsErrOf {T = Unit {0}} (Err f) (stop.Engine (fault.Damaged id)) → IsDamaged old id given)
     → EndsItems course Tells sys from items f (RoseBy a c) after given first last
-ends-at course Tells sys from items i start old new begun before after given item tally counts a b c (stop.Out output.Failed) first middle last st same unfailed told u below e ordered p rose stops recovers damaged =
-    output_stops course Tells sys from items i old new before after item tally counts a b c first middle last unfailed told u below e ordered p rose
-ends-at course Tells sys from items i start old new begun before after given item tally counts a b c (stop.Out output.NoMemory) first middle last st same unfailed told u below e ordered p rose stops recovers damaged = tt
-ends-at course Tells sys from items i start old new begun before after given item tally counts a b c (stop.Engine fault.StoreFault) first middle last st same unfailed told u below e ordered p rose stops recovers damaged =
+ends-at course Tells sys from items i start old new begun before after given item tally counts a b c (stop.Out output.Failed) first middle last st same unfailed told u below e ordered stored alone p rose stops recovers damaged =
+    output_stops course Tells sys from items i old new before after item tally counts a b c first middle last unfailed told u below e ordered stored alone p rose
+ends-at course Tells sys from items i start old new begun before after given item tally counts a b c (stop.Out output.NoMemory) first middle last st same unfailed told u below e ordered stored alone p rose stops recovers damaged = tt
+ends-at course Tells sys from items i start old new begun before after given item tally counts a b c (stop.Engine fault.StoreFault) first middle last st same unfailed told u below e ordered stored alone p rose stops recovers damaged =
     let h = stops refl in (
       h.0,
       store_stops course Tells sys from items i old new before after item tally counts (RoseBy b c) first middle last u below e
           (subst (λ (flow : Dataflow). MayCallIn flow item) (same ∙ st.apart.flow) h.1) ordered p,
     )
-ends-at course Tells sys from items i start old new begun before after given item tally counts a b c (stop.Engine (fault.Damaged id)) first middle last st same unfailed told u below e ordered p rose stops recovers damaged =
+ends-at course Tells sys from items i start old new begun before after given item tally counts a b c (stop.Engine (fault.Damaged id)) first middle last st same unfailed told u below e ordered stored alone p rose stops recovers damaged =
     let recover = recovers id refl in
     damage_stops course Tells sys from items i id old new before after given tally counts a b c first middle last unfailed told u below
     (subst (λ (x : Item). items ≡ take i items ++ x ∷ drop (i + 1) items) recover (parts_at items i item below e)) (same ∙ st.apart.flow)
     (subst (λ (x : Item). PrintsItem course old before x tally (RoseBy b c) (Err (stop.Engine (fault.Damaged id))) new after counts middle last) recover p) (damaged id refl) rose
-ends-at course Tells sys from items i start old new begun before after given item tally counts a b c (stop.Engine fault.NoMemory) first middle last st same unfailed told u below e ordered p rose stops recovers damaged = tt
+ends-at course Tells sys from items i start old new begun before after given item tally counts a b c (stop.Engine fault.NoMemory) first middle last st same unfailed told u below e ordered stored alone p rose stops recovers damaged = tt

@@ -40,7 +40,7 @@ TellsRecords known outside = IsSome (known.store outside.store).records
 pub record RunAnswers {F K O : Type 0} (known : Known F K O) (call : Call) (before : Outside F K O) (status : Status) (after : Outside F K O)
     : Type 0 where
   -- 0: all that the command prints of accepted texts was written, and no write was refused; and a run left in the store the
-  -- records of what its nodes wrote. What a run prints is known where the store tells its records, or no recovery reads a
+  -- records of what its nodes wrote, and behind a collection no others. What a run prints is known where the store tells its records, or no recovery reads a
   -- checkpoint; else a run whose steps are seen promises the lines up to the first recovery that reads one.
   pub done : status ≡ Done → PrintsAll (TellsRecords known after) call (known.out before.out) (known.out after.out)
   pub stored : status ≡ Done
@@ -56,13 +56,13 @@ pub record RunAnswers {F K O : Type 0} (known : Known F K O) (call : Call) (befo
       (known.store after.store).faults output.Failed (known.out before.out) (known.out after.out)
   -- Of a run: the lines of all steps that were taken but the last were written, and the output failed in those of the last, or in the
   -- last line; as many faults of the store were told until then as its count rose by; and the store holds the records of what its nodes
-  -- wrote until then. That is known as at 0, up to the item in which the output failed.
+  -- wrote until then, and behind a collection no others. That is known as at 0, up to the item in which the output failed.
   pub last_taken : status ≡ WriteFault → StopsAtOutput (TellsRecords known after) call (known.store before.store).faults
       (known.store after.store).faults (known.store after.store).records (known.out before.out) (known.out after.out)
-  -- 8: the store failed, in a step that may call it. A run ends there: the step was enabled (a collection sweeps where it is idle
-  -- too), the lines of the steps before were written (of generated texts nothing), and the store holds the records of what this
-  -- step leaves. `endure` goes on to its end: all was written, with a line for each step in which the store failed, and the store
-  -- holds the records of what its nodes wrote. That is known where the store tells its records, or no recovery before that step
+  -- 8: the store failed, in a step that may call it. A run ends there: the step asks for a write, or is a recovery that is enabled or a
+  -- collection (which sweeps where it is idle too), the lines of the steps before were written (of generated texts nothing), and the store
+  -- holds the records of what this step leaves. `endure` goes on to its end: all was written, with a line for each step in which the store
+  -- failed, and the store holds the records of what its nodes wrote, and behind a collection no others. That is known where the store tells its records, or no recovery before that step
   -- (of `endure`: none at all) reads a checkpoint; else `run` promises the lines up to the first recovery that reads one, and `endure`
   -- those of what it prints (`store_part`). Which records the store holds is said only where it tells them.
   pub store_fault : status ≡ StoreFault → StopsAtStore (TellsRecords known after) call (known.store before.store).faults

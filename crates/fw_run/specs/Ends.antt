@@ -10,9 +10,9 @@ use Rattle.fw_run.specs.declared.fault.RunFault.{RunFault}
 use Rattle.fw_run.specs.declared.fault.RunFault.TheVariants as stop
 use Rattle.fw_run.specs.Enduring.{Point, start_of, EnduredRun, IsRunKnown, RoseBy, RoseIfOn, RoseByFaults, StaysOrRose}
 use Rattle.fw_run.specs.Fault.{faults_after_run}
-use Rattle.fw_run.specs.Performing.{WritesUntil}
+use Rattle.fw_run.specs.Performing.{IsCutAfter, WritesUntil}
 use Rattle.fw_run.specs.Reports.{Report, faults_in, reports_text}
-use Rattle.fw_run.specs.Stopping.{HoldsWrites}
+use Rattle.fw_run.specs.Stopping.{HoldsBehind}
 use Rattle.fw_run.specs.Tallies.{last_line, tally_shown, with_tally}
 use Rattle.fw_run.specs.Through.{BeginsWith, IsStoppedByOutput, IsStoppedByStore, IsStoppedByDamage}
 use Rattle.fw_command.specs.Command.{Manner}
@@ -103,26 +103,30 @@ SomeLeft left = Unit {0}
 -- ---- how a run ends
 
 -- The run came to its end, and its text was written. If it is known what comes of the items, that is the text of a run over them, of the
--- number of whose faults this is true, and the store holds the writes of its last state.
+-- number of whose faults this is true, and the store holds the writes of its last state, and behind a collection no others.
 pub record IsDone (Tells : Type 0) (IsCount : ℕ → Type 0) (records : Option Records) (before after : SinkView) (manner : Manner) (sys : System)
     (items : List Item) : Type 0 where
   pub printed : List ℕ
   pub written : IsWritten printed before after
   pub done : AreKnown manner Tells sys items → (run : EnduredRun manner.course sys (first_point manner sys).state items)
-      × (printed ≡ text_of_run manner (first_point manner sys) run.reports) × IsCount (faults_in run.reports) × HoldsWrites sys records run.last
+      × (printed ≡ text_of_run manner (first_point manner sys) run.reports) × IsCount (faults_in run.reports) × HoldsBehind sys records items run.reports run.last
 
 -- all was taken, and the store failed in no step
 abbrev pub IsWholeRun : Type 0 → Option Records → SinkView → SinkView → Manner → System → List Item → Type 0
 IsWholeRun Tells records before after manner sys items = IsDone Tells (λ faults. faults ≡ 0) records before after manner sys items
 
 -- The run came to its end, and the output failed in the last line. If it is known what comes of the items, of the number of faults of a run
--- over them this is true, and the store holds the writes of its last state.
-abbrev pub IsLastLineCut : Type 0 → (ℕ → Type 0) → Option Records → SinkView → SinkView → Manner → System → List Item → Type 0
-IsLastLineCut Tells IsCount records before after manner sys items =
-    let from = first_point manner sys in AreKnown manner Tells sys items → (run : EnduredRun manner.course sys from.state items)
-    × IsCutIn (seen_lines manner.is_seen (reports_text from.counts.steps run.reports))
-    (last_line manner.last (with_tally from.counts (tally_shown run.reports))) output.Failed before after
-    × IsCount (faults_in run.reports) × HoldsWrites sys records run.last
+-- over them this is true, and the store holds the writes of its last state, and behind a collection no others. If what comes is known of
+-- first items alone, what was written begins with their lines.
+pub record IsLastLineCut (Tells : Type 0) (IsCount : ℕ → Type 0) (records : Option Records) (before after : SinkView) (manner : Manner) (sys : System)
+    (items : List Item) : Type 0 where
+  pub printed : List ℕ
+  pub written : IsCutAfter printed output.Failed before after
+  pub first : (n : ℕ) → AreKnown manner Tells sys (take n items) → BeginsText manner sys (take n items) printed []
+  pub cut : AreKnown manner Tells sys items → (run : EnduredRun manner.course sys (first_point manner sys).state items)
+      × IsCutIn (seen_lines manner.is_seen (reports_text (first_point manner sys).counts.steps run.reports))
+      (last_line manner.last (with_tally (first_point manner sys).counts (tally_shown run.reports))) output.Failed before after
+      × IsCount (faults_in run.reports) × HoldsBehind sys records items run.reports run.last
 
 -- The output failed: in the lines of a step, if they are seen, or in the last line. So often the store failed until then as its count rose,
 -- from the first number to the second.

@@ -6,7 +6,7 @@ use Rattle.fw_outside.specs.declared.fault.OutFault.{OutFault}
 use Rattle.fw_outside.specs.declared.fault.OutFault.TheVariants as output
 use Rattle.fw_outside.specs.Outside.{SinkView, Takes}
 use Rattle.fw_flow.specs.declared.step.Step.{Step}
-use Rattle.fw_flow.specs.declared.step.Step.TheVariants.{Recover}
+use Rattle.fw_flow.specs.declared.step.Step.TheVariants.{Collect, Recover}
 use Rattle.fw_flow.specs.Dataflow.{System}
 use Rattle.fw_schedule.specs.declared.item.Item.{Item}
 use Rattle.fw_schedule.specs.declared.item.Item.TheVariants.{One, Auto}
@@ -17,7 +17,7 @@ use Rattle.fw_running.specs.declared.fault.EngineFault.{EngineFault}
 use Rattle.fw_running.specs.declared.fault.EngineFault.TheVariants as fault
 use Rattle.fw_running.specs.Steps.{IsStepEnabled, Trusts}
 use Rattle.fw_engine.specs.declared.engine.Engine.{Engine}
-use Rattle.fw_engine.specs.Engine.{StandsFor}
+use Rattle.fw_engine.specs.Engine.{StandsFor, keep_of}
 use Rattle.fw_run.specs.declared.fault.RunFault.{RunFault}
 use Rattle.fw_run.specs.declared.fault.RunFault.TheVariants as stop
 use Rattle.fw_run.specs.declared.tally.StepCounts.{StepCounts}
@@ -61,13 +61,14 @@ TrustsItem sys state (One step) records = Trusts sys state step records
 TrustsItem sys state (Auto most) records = Unit {0}
 
 -- The item was taken from the state; these are the lines of its steps, and so they are counted; and the engine then stands for the state
--- to which it leads.
+-- to which it leads, and behind a collection in which the store did not fail nothing waits for a sweep.
 pub record IsItemTaken (course : Course) (sys : System) (state : Machine) (item : Item) (old new : StepCounts) (bytes : List ℕ) (engine : Engine)
     (records : Option Records) : Type 0 where
   pub of_item : EnduredItem course sys state item
   pub text : bytes ≡ reports_text old.steps of_item.reports
   pub counted : new ≡ with_tally old (tally_shown of_item.reports)
   pub stands : StandsFor sys engine records of_item.last
+  pub swept : item ≡ One Collect → faults_in of_item.reports ≡ 0 → (keep_of engine).waiting ≡ []
 
 -- The item is taken from the state, and these are first bytes of the lines of its steps; of the number of its faults this is true.
 pub record IsItemBegun (course : Course) (sys : System) (state : Machine) (item : Item) (old : StepCounts) (bytes : List ℕ) (IsCount : ℕ → Type 0)
@@ -78,7 +79,8 @@ pub record IsItemBegun (course : Course) (sys : System) (state : Machine) (item 
   pub faults : IsCount (faults_in of_item.reports)
 
 -- So much of the item as was begun was taken from the state, and these are the lines of its steps, cut off in those of the last one; of the
--- number of its faults this is true; and the engine then stands for the state to which it leads.
+-- number of its faults this is true; and the engine then stands for the state to which it leads, and behind a collection in which the store
+-- did not fail nothing waits for a sweep.
 pub record IsItemCut (course : Course) (sys : System) (state : Machine) (item : Item) (old : StepCounts) (bytes : List ℕ) (IsCount : ℕ → Type 0)
     (engine : Engine) (records : Option Records) : Type 0 where
   pub part : Item
@@ -87,6 +89,7 @@ pub record IsItemCut (course : Course) (sys : System) (state : Machine) (item : 
   pub cut : AreCutInLast old.steps of_item.reports bytes
   pub faults : IsCount (faults_in of_item.reports)
   pub stands : StandsFor sys engine records of_item.last
+  pub swept : item ≡ One Collect → faults_in of_item.reports ≡ 0 → (keep_of engine).waiting ≡ []
 
 -- The machine begins the item and comes to a state of which this is true; these are the lines of its steps so far, in none of which the
 -- store failed, and so they are counted.

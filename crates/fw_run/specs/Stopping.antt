@@ -1,18 +1,21 @@
 -- What a run leaves in its store, and where a store may stop it.
-use Rattle.std.specs.Prelude.{◌≡◌, ℕ, ◌<◌, ◌≤◌, List, [], length, Option}
+use Rattle.std.specs.Prelude.{◌≡◌, ℕ, ◌<◌, ◌≤◌, true, false, List, [], ◌∷◌, ◌++◌, length, Option, IsSome}
+use Rattle.std.specs.FinMap as map
 use Rattle.std.specs.List.{Contains}
+use Rattle.std.specs.Option.{ForSome}
 use Rattle.fw_flow.specs.declared.step.Step.{Step}
-use Rattle.fw_flow.specs.declared.step.Step.TheVariants.{Recover}
+use Rattle.fw_flow.specs.declared.step.Step.TheVariants.{Collect, Recover}
 use Rattle.fw_flow.specs.Dataflow.{Dataflow, System}
 use Rattle.fw_schedule.specs.declared.item.Item.{Item}
 use Rattle.fw_schedule.specs.declared.item.Item.TheVariants.{One, Auto}
 use Rattle.fw_model.specs.Auto.{IsAutoRun}
 use Rattle.fw_model.specs.Machine.{Machine}
 use Rattle.fw_keep.specs.declared.entry.Entry.{Entry}
-use Rattle.fw_keep.specs.Catalogue.{AreAscending, ids_of}
+use Rattle.fw_keep.specs.Catalogue.{AreAscending, has_entry, ids_of}
 use Rattle.fw_keep.specs.Stored.{Records}
 use Rattle.fw_stands.specs.Written.{AreEntriesOf, AreStored, uncollected}
 use Rattle.fw_running.specs.Steps.{FirstMayCall, MayCallStore, IsStepEnabled, IsLeftBy, IsAskedIn}
+use Rattle.fw_run.specs.Reports.{Report, is_fault}
 
 -- ---- what a store holds
 
@@ -23,6 +26,25 @@ pub record HoldsWrites (sys : System) (records : Option Records) (state : Machin
   pub ascending : AreAscending (ids_of entries)
   pub of_writes : AreEntriesOf sys state entries (uncollected state)
   pub held : AreStored sys state records entries (uncollected state)
+
+-- where the store tells its records, each is under the id of one of these entries
+abbrev pub HoldsNoOthers : Option Records → List Entry → Type 0
+HoldsNoOthers records entries = ForSome records (λ held. (id : ℕ) → IsSome (map.get held id) → has_entry id entries ≡ true)
+
+-- the last of the items is a collection, and its report, the last one, is no fault of the store
+pub record EndSwept (items : List Item) (reports : List Report) : Type 0 where
+  pub earlier : List Item
+  pub collects : items ≡ earlier ++ One Collect ∷ []
+  pub told : List Report
+  pub last : Report
+  pub parts : reports ≡ told ++ last ∷ []
+  pub unfailed : is_fault last ≡ false
+
+-- Behind items with these reports the store holds the records that the state names and, where the last item is a collection in which it did
+-- not fail, no others.
+pub record HoldsBehind (sys : System) (records : Option Records) (items : List Item) (reports : List Report) (state : Machine) : Type 0 where
+  pub writes : HoldsWrites sys records state
+  pub no_others : EndSwept items reports → HoldsNoOthers records writes.entries
 
 -- ---- where a run stops
 

@@ -15,9 +15,9 @@ use Rattle.fw_run.specs.declared.fault.RunFault.{RunFault}
 use Rattle.fw_run.specs.declared.fault.RunFault.TheVariants as stop
 use Rattle.fw_run.specs.declared.tally.StepCounts.{StepCounts}
 use Rattle.fw_run.specs.Enduring.{Point, EnduredRun, IsRunKnown}
-use Rattle.fw_run.specs.Performing.{IsTaken, IsCountAt}
+use Rattle.fw_run.specs.Performing.{IsCutAfter, IsTaken, IsCountAt}
 use Rattle.fw_run.specs.Reports.{Report, faults_in, reports_text, RunShown}
-use Rattle.fw_run.specs.Stopping.{HoldsWrites, ItemBegins, IsPartOf, MayCallIn, IsLeftIn, IsReadIn}
+use Rattle.fw_run.specs.Stopping.{HoldsWrites, HoldsBehind, ItemBegins, IsPartOf, MayCallIn, IsLeftIn, IsReadIn}
 use Rattle.fw_run.specs.Tallies.{tally_shown, with_tally}
 use Rattle.fw_command.specs.Command.{Course}
 use Rattle.fw_command.specs.Writing.{IsWritten}
@@ -25,13 +25,13 @@ use Rattle.fw_hold.specs.Going.{IsCutIn}
 
 -- ---- items
 
--- The items lead to a state of which this is true; so their steps and their faults are counted, and these are their lines.
+-- The items lead to reports and a state of which this is true; so their steps and their faults are counted, and these are their lines.
 pub record IsSoFar (course : Course) (sys : System) (from : Point) (items : List Item) (tally : StepCounts) (bytes : List ℕ)
-    (IsSo : Machine → Type 0) : Type 0 where
+    (IsSo : List Item → List Report → Machine → Type 0) : Type 0 where
   pub run : EnduredRun course sys from.state items
   pub text : bytes ≡ reports_text from.counts.steps run.reports
   pub counted : tally ≡ with_tally from.counts (tally_shown run.reports)
-  pub so : IsSo run.last
+  pub so : IsSo items run.reports run.last
 
 -- the bytes begin with the lines of the items
 pub record BeginsWith (course : Course) (sys : System) (from : Point) (items : List Item) (bytes : List ℕ) : Type 0 where
@@ -53,7 +53,7 @@ pub record IsPartOfLines (course : Course) (sys : System) (from : Point) (items 
 
 -- What was written of so many first items is their lines, as far as it is known what comes of them.
 pub record AreTaken (course : Course) (Tells : Type 0) (sys : System) (from : Point) (items : List Item) (place : ℕ) (tally : StepCounts)
-    (IsSo : Machine → Type 0) (first last : SinkView) : Type 0 where
+    (IsSo : List Item → List Report → Machine → Type 0) (first last : SinkView) : Type 0 where
   pub bytes : List ℕ
   pub written : IsWritten bytes first last
   pub so_far : IsRunKnown course Tells sys from.state (take place items) → IsSoFar course sys from (take place items) tally bytes IsSo
@@ -81,9 +81,9 @@ pub record StopsIn (course : Course) (sys : System) (from : Point) (items : List
   pub text : printed ≡ reports_text from.counts.steps (before.reports ++ reports)
   pub so : IsSo state
 
--- The run was stopped by its store in this one of the items: in a step that may call it. If it is known what comes of the items before,
--- these are the lines of the steps before, and the store holds the writes of what this step leaves; if that is known of first items
--- alone, their lines come first. Of these lines this is true.
+-- The run was stopped by its store in this one of the items: in a step that may call it. If it is known what comes of the items before, the
+-- step asks for a write, or is a recovery that is enabled or a collection; these are the lines of the steps before, and the store holds the
+-- writes of what this step leaves. If that is known of first items alone, their lines come first. Of these lines this is true.
 pub record IsStoppedByStore (course : Course) (Tells : Type 0) (sys : System) (from : Point) (items : List Item) (records : Option Records)
     (IsPut : List ℕ → Type 0) : Type 0 where
   pub printed : List ℕ
@@ -118,10 +118,10 @@ pub record IsStoppedByDamage (course : Course) (Tells : Type 0) (sys : System) (
   pub stops : IsRunKnown course Tells sys from.state earlier → (run : EnduredRun course sys from.state earlier)
       × (printed ≡ reports_text from.counts.steps run.reports) × IsCount (faults_in run.reports) × IsReadIn sys entry run.last
 
--- The items were taken and so much of one more as was begun, to a state of which this is true, as it is of the number of their faults. The
--- lines of all steps but the last were written, and the output failed in those of the last.
-pub record CutsIn (course : Course) (sys : System) (from : Point) (items : List Item) (item : Item) (IsCount : ℕ → Type 0) (IsSo : Machine → Type 0)
-    (first last : SinkView) : Type 0 where
+-- The items were taken and so much of one more as was begun, to reports and a state of which this is true, as it is of the number of their
+-- faults. The lines of all steps but the last were written, and the output failed in those of the last.
+pub record CutsIn (course : Course) (sys : System) (from : Point) (items : List Item) (item : Item) (IsCount : ℕ → Type 0)
+    (IsSo : List Item → List Report → Machine → Type 0) (first last : SinkView) : Type 0 where
   pub part : Item
   pub begun : IsPartOf item part
   pub run : EnduredRun course sys from.state (items ++ part ∷ [])
@@ -130,18 +130,22 @@ pub record CutsIn (course : Course) (sys : System) (from : Point) (items : List 
   pub reports : run.reports ≡ told ++ cut ∷ []
   pub written : IsCutIn (reports_text from.counts.steps told) (reports_text (from.counts.steps + length told) (cut ∷ [])) output.Failed first last
   pub faults : IsCount (faults_in run.reports)
-  pub so : IsSo run.last
+  pub so : IsSo (items ++ part ∷ []) run.reports run.last
 
 -- The run was stopped by its output in this one of the items. If it is known what comes of the items up to it, the output failed in the lines
--- of the step that was taken last; of the number of faults until then this is true; and the store holds the writes of what that step leaves.
+-- of the step that was taken last; of the number of faults until then this is true; and the store holds the writes of what that step leaves,
+-- and behind a collection no others. If what comes is known of first items before alone, what was written begins with their lines.
 pub record IsStoppedByOutput (course : Course) (Tells : Type 0) (sys : System) (from : Point) (items : List Item) (records : Option Records)
-    (IsCount : ℕ → Type 0) (first last : SinkView) : Type 0 where
+    (IsCount : ℕ → Type 0) (before after : SinkView) : Type 0 where
+  pub printed : List ℕ
+  pub written : IsCutAfter printed output.Failed before after
   pub earlier : List Item
   pub item : Item
   pub later : List Item
   pub parts : items ≡ earlier ++ item ∷ later
+  pub first : (n : ℕ) → n ≤ length earlier → IsRunKnown course Tells sys from.state (take n items) → BeginsWith course sys from (take n items) printed
   pub stops : IsRunKnown course Tells sys from.state (earlier ++ item ∷ [])
-      → CutsIn course sys from earlier item IsCount (HoldsWrites sys records) first last
+      → CutsIn course sys from earlier item IsCount (HoldsBehind sys records) before after
 
 -- where the output ended the run, the store or a damaged record
 abbrev pub EndsItems : Course → Type 0 → System → Point → List Item → RunFault → (ℕ → Type 0) → Option Records → Option (ℕ × List ℕ)
@@ -159,6 +163,6 @@ EndsItems course Tells sys from items (stop.Engine fault.NoMemory) IsCount recor
 abbrev pub TakesItems : Course → Type 0 → System → Point → List Item → Result (Unit {0}) RunFault → StepCounts → (ℕ → Type 0) → Option Records
     → Option (ℕ × List ℕ) → SinkView → SinkView → Type 0
 TakesItems course Tells sys from items (Ok value) tally IsCount records given first last =
-    AreTaken course Tells sys from items (length items) tally (HoldsWrites sys records) first last × IsCount tally.faults
+    AreTaken course Tells sys from items (length items) tally (HoldsBehind sys records) first last × IsCount tally.faults
 TakesItems course Tells sys from items (Err f) tally IsCount records given first last =
     AreCutOff course Tells sys from items f IsCount first last × EndsItems course Tells sys from items f IsCount records given first last

@@ -19,7 +19,7 @@ ghost use Rattle.fw_command.specs.Writing.{Writes};
 use crate::explain::reasons_for;
 use crate::fault::RunFault;
 use crate::tally::StepCounts;
-use crate::text::lines_of;
+use crate::text::{is_silent, lines_of};
 use fw_command::Showing;
 use fw_engine::{Engine, Stepped};
 use fw_flow::{Flow, Step};
@@ -42,6 +42,7 @@ pub(crate) fn perform_item<K: Store, O: Sink>(
     requires room { HasRoom tally.old item.now }
     ensures stored { IsStored (keep_of engine.new) (K.view store.new).records }
     ensures in_order { AreAscending (ids_of (keep_of engine.new).entries) }
+    ensures shared { (keep_of engine.new).shared ≡ (keep_of engine.old).shared }
     ensures told_before { IsSome (K.view store.new).records → IsSome (K.view store.old).records }
     ensures flow { flow_of engine.new ≡ flow_of engine.old }
     ensures few { AreFew item.now result tally.old tally.new }
@@ -74,6 +75,7 @@ fn perform_step<K: Store, O: Sink>(
     requires room { HasRoom tally.old (Item.One step.now) }
     ensures stored { IsStored (keep_of engine.new) (K.view store.new).records }
     ensures in_order { AreAscending (ids_of (keep_of engine.new).entries) }
+    ensures shared { (keep_of engine.new).shared ≡ (keep_of engine.old).shared }
     ensures told_before { IsSome (K.view store.new).records → IsSome (K.view store.old).records }
     ensures flow { flow_of engine.new ≡ flow_of engine.old }
     ensures few { AreFew (Item.One step.now) result tally.old tally.new }
@@ -106,6 +108,7 @@ fn perform_auto<K: Store, O: Sink>(
     requires room { HasRoom tally.old (Item.Auto most) }
     ensures stored { IsStored (keep_of engine.new) (K.view store.new).records }
     ensures in_order { AreAscending (ids_of (keep_of engine.new).entries) }
+    ensures shared { (keep_of engine.new).shared ≡ (keep_of engine.old).shared }
     ensures told_before { IsSome (K.view store.new).records → IsSome (K.view store.old).records }
     ensures flow { flow_of engine.new ≡ flow_of engine.old }
     ensures few { AreFew (Item.Auto most) result tally.old tally.new }
@@ -143,6 +146,9 @@ fn print<O: Sink>(
 ) -> Result<(), OutFault>
     ensures { Writes (outcome_text flow.now (outcome_of stepped.now) ++ reasons.now) result (O.view out.old) (O.view out.new) }
 {
+    if reasons.is_empty() && is_silent(stepped) {
+        return Ok(());
+    }
     match lines_of(alloc, flow, stepped, reasons)? {
         Some(line) => out.write(&line),
         None => Ok(()),

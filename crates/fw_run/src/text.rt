@@ -27,9 +27,6 @@ pub fn lines_of(
 ) -> Result<Option<Vec<u8>>, AllocError>
     ensures { IfOk result (λ line. shown_bytes line ≡ outcome_text flow.now (outcome_of stepped.now) ++ behind.now) }
 {
-    if behind.is_empty() && is_silent(stepped) {
-        return Ok(None);
-    }
     let shown = stepped.display(flow);
     let lines = format!(in alloc; "{shown}{behind}")?;
     if lines.is_empty() {
@@ -38,8 +35,8 @@ pub fn lines_of(
     Ok(Some(lines.into_bytes()))
 }
 
-// Whether nothing is shown of the step: most show nothing.
-fn is_silent(stepped: &Stepped) -> bool
+/// Whether nothing is shown of the step: most show nothing.
+pub(crate) fn is_silent(stepped: &Stepped) -> bool
     ensures { (flow : Dataflow) → IsTrue result → outcome_text flow (outcome_of stepped.now) ≡ [] }
 {
     matches!(stepped, Stepped::Idle | Stepped::Did(Effect::Quiet))

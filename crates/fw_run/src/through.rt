@@ -69,6 +69,7 @@ fn take<K: Store, O: Sink>(
 ) -> Result<(), RunFault>
     requires stored { IsStored (keep_of engine.old) (K.view store.old).records }
     requires in_order { AreAscending (ids_of (keep_of engine.old).entries) }
+    requires alone { (keep_of engine.old).shared ≡ false }
     requires of_steps { AreOfSteps tally.old }
     requires few { tally.old.steps + step_count items.now ≤ step_limit }
     requires none { tally.old.faults ≡ 0 }
@@ -102,6 +103,7 @@ fn take_items<K: Store, O: Sink>(
 ) -> Result<(), RunFault>
     requires stored { IsStored (keep_of engine.old) (K.view store.old).records }
     requires in_order { AreAscending (ids_of (keep_of engine.old).entries) }
+    requires alone { (keep_of engine.old).shared ≡ false }
     requires of_steps { AreOfSteps tally.old }
     requires few { tally.old.steps + step_count items.now ≤ step_limit }
     requires none { tally.old.faults ≡ 0 }
@@ -136,6 +138,7 @@ fn take_item<K: Store, O: Sink>(
     requires room { HasRoom tally.old item.now }
     ensures stored { IsStored (keep_of engine.new) (K.view store.new).records }
     ensures in_order { AreAscending (ids_of (keep_of engine.new).entries) }
+    ensures shared { (keep_of engine.new).shared ≡ (keep_of engine.old).shared }
     ensures told_before { IsSome (K.view store.new).records → IsSome (K.view store.old).records }
     ensures flow { flow_of engine.new ≡ flow_of engine.old }
     ensures of_steps { AreOfSteps tally.new }

@@ -1,6 +1,6 @@
 //! Writes are asked.
 ghost use Rattle.std.specs.Prelude.{◌≡◌, ◌<◌, ◌++◌, List, Option, length, IfOk, OnOk, OnErr, is_some};
-ghost use Rattle.fw_running.specs.Drawn.{DrawsAtMost};
+ghost use Rattle.fw_running.specs.Drawn.{DrawsAtMost, supply};
 ghost use Rattle.fw_running.specs.Faults.{faults_after_step};
 ghost use Rattle.fw_frontier.specs.Front.{IsCanonical};
 ghost use Rattle.fw_flow.specs.Dataflow.{bounds_of};
@@ -76,7 +76,7 @@ pub(crate) fn withdraw_from(running: &mut Running, count: usize)
     ensures stored { (records : Option Records) → IsStored running.old.parts.keep records → IsStored running.new.parts.keep records }
     ensures withdrawn { (before more : List Write) → running.old.parts.keep.entries ≡ before ++ more → length before ≡ count → AreInFlight more
         → running.new.parts.keep.entries ≡ before }
-    ensures draws { running.new.parts.keep.next ≡ running.old.parts.keep.next }
+    ensures draws { supply running.new.parts.keep ≡ supply running.old.parts.keep }
 {
     let entries = running.parts.keep.entries();
     if count >= entries.len() {

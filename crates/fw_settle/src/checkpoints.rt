@@ -8,7 +8,7 @@ ghost use Rattle.fw_model.specs.Steps.{last_or};
 ghost use Rattle.fw_flow.specs.declared.step.Step.TheVariants as steps;
 ghost use Rattle.fw_keep.specs.Stored.{IsStored};
 ghost use Rattle.fw_stands.specs.Entries.{entry_fronts};
-ghost use Rattle.fw_running.specs.Drawn.{DrawsAtMost, may_draw};
+ghost use Rattle.fw_running.specs.Drawn.{DrawsAtMost, may_draw, supply};
 ghost use Rattle.fw_running.specs.Shaped.{IsShaped};
 ghost use Rattle.fw_settle.specs.Checkpoints.{MayTakeCheckpoint};
 ghost use Rattle.fw_running.specs.Steps.{InnerAnswers, StepAnswers};
@@ -74,7 +74,7 @@ fn is_newest_settled(running: &Running, node: NodeId) -> bool
 pub fn persist(running: &mut Running) -> Stepped
     requires shaped { IsShaped running.old }
     ensures answers { InnerAnswers running.old steps.Persist (Ok result) running.new }
-    ensures draws { running.new.parts.keep.next ≡ running.old.parts.keep.next }
+    ensures draws { supply running.new.parts.keep ≡ supply running.old.parts.keep }
 {
     match running.parts.keep.persist_one() {
         Some(_id) => Stepped::Did(Effect::Quiet),

@@ -3,8 +3,8 @@ use Rattle.fw_collect.specs.Drops.{IsPlanned, watermark}
 use Rattle.fw_frontier.specs.Front.{Front}
 use Rattle.fw_keep.specs.declared.entry.Entry.{Entry}
 use Rattle.fw_rollback.specs.declared.parts.Parts.{Parts}
+use Rattle.fw_running.specs.Drawn.{supply}
 use Rattle.fw_choose.specs.Collecting.{AreRaised}
-use Rattle.fw_keep.specs.Catalogue.{KeepState}
 use Rattle.fw_choose.proofs.collection.give_up.Goals as goal
 
 pub returns-clause-collected : goal.returns-clause-collected
@@ -25,4 +25,4 @@ returns-clause-collected c =
     }
 
 pub returns-clause-draws : goal.returns-clause-draws
-returns-clause-draws c = ap (λ (k : KeepState). k.next) c.drop_from.ensures.entries.left
+returns-clause-draws c = ap supply c.drop_from.ensures.entries.left

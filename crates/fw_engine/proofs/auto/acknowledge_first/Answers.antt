@@ -3,6 +3,7 @@ use Rattle.fw_border.specs.Outputs.{AreByNumber}
 use Rattle.std.specs.Prelude.{IfSome}
 use Rattle.fw_keep.specs.Stored.{IsStored}
 use Rattle.fw_running.specs.declared.running.Running.{Running}
+use Rattle.fw_running.specs.Drawn.{supply}
 use Rattle.fw_running.specs.Kept.{output_of}
 use Rattle.fw_running.specs.Places.{IsFirstWhere}
 use Rattle.fw_running.specs.Ready.{CanAcknowledge}
@@ -35,7 +36,7 @@ returns-in-None-clause-stored c = λ records stored.
     subst (λ (r : Running). IsStored r.parts.keep records) (sym c.first_acknowledging.ensures.others) stored
 
 pub returns-in-Some-clause-draws : goal.returns-in-Some-clause-draws
-returns-in-Some-clause-draws c = c.acknowledge.ensures.draws ∙ ap (λ (r : Running). r.parts.keep.next) c.first_acknowledging.ensures.others
+returns-in-Some-clause-draws c = c.acknowledge.ensures.draws ∙ ap (λ (r : Running). supply r.parts.keep) c.first_acknowledging.ensures.others
 
 pub returns-in-None-clause-draws : goal.returns-in-None-clause-draws
-returns-in-None-clause-draws c = ap (λ (r : Running). r.parts.keep.next) c.first_acknowledging.ensures.others
+returns-in-None-clause-draws c = ap (λ (r : Running). supply r.parts.keep) c.first_acknowledging.ensures.others

@@ -1,6 +1,7 @@
 use Rattle.std.proofs.Common.{Option, ap, refl, subst, sym, ℕ}
 use Rattle.fw_keep.specs.Stored.{IsStored}
 use Rattle.fw_running.specs.declared.running.Running.{Running}
+use Rattle.fw_running.specs.Drawn.{supply}
 use Rattle.fw_running.specs.Places.{IsFirstWhere}
 use Rattle.fw_running.specs.Ready.{CanDeliver}
 use Rattle.fw_running.specs.Steps.{MayCallByItself}
@@ -55,11 +56,11 @@ returns-in-Some-clause-draws g c =
     let before = (g.K.Store.view c.args.store.now).records in
     let after = (g.K.Store.view c.deliver.new.store).records in
     draws-behind c.args.running.now mid new before after c.deliver.result (ap (λ (r : Running). r.flow) c.first_deliverable.ensures.others)
-    (ap (λ (r : Running). r.parts.keep.next) c.first_deliverable.ensures.others)
+    (ap (λ (r : Running). supply r.parts.keep) c.first_deliverable.ensures.others)
     (draws-one mid new before after c.deliver.result c.first_deliverable.ensures.shaped.well_formed c.deliver.ensures.draws)
 
 pub returns-in-None-clause-draws : goal.returns-in-None-clause-draws
 returns-in-None-clause-draws g c =
     draws-behind c.args.running.now c.first_deliverable.new.running c.notify_first.new.running (g.K.Store.view c.args.store.now).records
     (g.K.Store.view c.notify_first.new.store).records c.notify_first.result (ap (λ (r : Running). r.flow) c.first_deliverable.ensures.others)
-    (ap (λ (r : Running). r.parts.keep.next) c.first_deliverable.ensures.others) c.notify_first.ensures.draws
+    (ap (λ (r : Running). supply r.parts.keep) c.first_deliverable.ensures.others) c.notify_first.ensures.draws

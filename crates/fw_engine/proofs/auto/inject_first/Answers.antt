@@ -1,6 +1,7 @@
 use Rattle.std.proofs.Common.{Option, ap, subst, sym, ◌∙◌, ℕ}
 use Rattle.fw_keep.specs.Stored.{IsStored}
 use Rattle.fw_running.specs.declared.running.Running.{Running}
+use Rattle.fw_running.specs.Drawn.{supply}
 use Rattle.fw_running.specs.Places.{IsFirstWhere}
 use Rattle.fw_running.specs.Ready.{CanInject}
 use Rattle.fw_engine.proofs.TakenFirstLaws.{inject-first, nothing-first}
@@ -27,7 +28,7 @@ returns-in-Some-clause-stored c = λ records stored.
     c.inject.ensures.answers.stored records (subst (λ (r : Running). IsStored r.parts.keep records) (sym c.first_injecting.ensures.others) stored)
 
 pub returns-in-Some-clause-draws : goal.returns-in-Some-clause-draws
-returns-in-Some-clause-draws c = c.inject.ensures.draws ∙ ap (λ (r : Running). r.parts.keep.next) c.first_injecting.ensures.others
+returns-in-Some-clause-draws c = c.inject.ensures.draws ∙ ap (λ (r : Running). supply r.parts.keep) c.first_injecting.ensures.others
 
 pub returns-in-None-clause-draws : goal.returns-in-None-clause-draws
-returns-in-None-clause-draws c = ap (λ (r : Running). r.parts.keep.next) c.first_injecting.ensures.others
+returns-in-None-clause-draws c = ap (λ (r : Running). supply r.parts.keep) c.first_injecting.ensures.others

@@ -3,6 +3,7 @@ use Rattle.fw_keep.specs.Stored.{IsStored}
 use Rattle.fw_rollback.specs.declared.parts.Parts.{Parts}
 use Rattle.fw_running.specs.declared.fault.EngineFault.{EngineFault}
 use Rattle.fw_running.specs.declared.stepped.Stepped.{Stepped}
+use Rattle.fw_running.specs.Drawn.{supply}
 use Rattle.fw_running.specs.Steps.{MayCallByItself}
 use Rattle.fw_running.proofs.StepLaws.{ok-unfaulted, part-err, part-later, part-may, part-of, part-refused_first}
 use Rattle.fw_engine.specs.declared.auto.Notice.{Notice}
@@ -74,13 +75,13 @@ notify_of-requires-clause-stored g c =
 pub returns-in_err-notice-clause-draws : goal.returns-in_err-notice-clause-draws
 returns-in_err-notice-clause-draws g c =
     draws-none c.args.running.now c.first_notice.new.running (g.K.Store.view c.args.store.now).records _
-    (ap (λ (parts : Parts). parts.keep.next) c.first_notice.ensures.parts)
+    (ap (λ (parts : Parts). supply parts.keep) c.first_notice.ensures.parts)
 
 pub returns-in_default-clause-draws : goal.returns-in_default-clause-draws
 returns-in_default-clause-draws g c =
     draws-behind c.args.running.now c.first_notice.new.running c.settle_first.new.running (g.K.Store.view c.args.store.now).records
     (g.K.Store.view c.settle_first.new.store).records c.settle_first.result c.first_notice.ensures.flow
-    (ap (λ (parts : Parts). parts.keep.next) c.first_notice.ensures.parts) c.settle_first.ensures.draws
+    (ap (λ (parts : Parts). supply parts.keep) c.first_notice.ensures.parts) c.settle_first.ensures.draws
 
 pub returns-in_err-notify_of-clause-draws : goal.returns-in_err-notify_of-clause-draws
 returns-in_err-notify_of-clause-draws g c =
@@ -91,10 +92,10 @@ returns-in_err-notify_of-clause-draws g c =
     from-err c.from_residual-in_err-notify_of.result c.in_err-notify_of.field-0.0 (λ (r : Result Stepped EngineFault). StepDraws old before r new after)
     c.from_residual-in_err-notify_of.ensures.1
     (draws-notified old c.first_notice.new.running new before after c.requires.shaped.well_formed
-    (ap (λ (parts : Parts). parts.keep.next) c.first_notice.ensures.parts) c.in_err-notify_of.ensures.draws)
+    (ap (λ (parts : Parts). supply parts.keep) c.first_notice.ensures.parts) c.in_err-notify_of.ensures.draws)
 
 pub returns-clause-draws : goal.returns-clause-draws
 returns-clause-draws g c =
     draws-notified c.args.running.now c.first_notice.new.running c.notify_of.new.running (g.K.Store.view c.args.store.now).records
-    (g.K.Store.view c.notify_of.new.store).records c.requires.shaped.well_formed (ap (λ (parts : Parts). parts.keep.next) c.first_notice.ensures.parts)
+    (g.K.Store.view c.notify_of.new.store).records c.requires.shaped.well_formed (ap (λ (parts : Parts). supply parts.keep) c.first_notice.ensures.parts)
     c.in_ok-notify_of.ensures.draws

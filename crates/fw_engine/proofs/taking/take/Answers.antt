@@ -60,7 +60,7 @@ pub returns-in-Recover-clause-draws : goal.returns-in-Recover-clause-draws
 returns-in-Recover-clause-draws g c = λ other. draws_more c.recover.ensures.draws (omega arith)
 
 pub returns-in-Collect-clause-answers : goal.returns-in-Collect-clause-answers
-returns-in-Collect-clause-answers g c = rw c.in-Collect.is c.collect.ensures
+returns-in-Collect-clause-answers g c = rw c.in-Collect.is c.collect.ensures.answers
 
 pub returns-in-Collect-clause-draws : goal.returns-in-Collect-clause-draws
 returns-in-Collect-clause-draws g c = λ other. absurd (other c.in-Collect.is)

@@ -2,6 +2,7 @@ use Rattle.std.proofs.Common.{◌≡◌, true, false, ap, refl, subst, sym, ◌�
 use Rattle.fw_flow.specs.Dataflow.{kind_of, is_input_kind}
 use Rattle.fw_keep.specs.Catalogue.{KeepState}
 use Rattle.fw_keep.specs.Stored.{IsStored}
+use Rattle.fw_running.specs.Drawn.{supply}
 use Rattle.fw_running.specs.Kept.{is_down, source_of}
 use Rattle.fw_running.proofs.StepLaws.{inner-ok, inner-refused}
 use Rattle.fw_events.specs.Taking.{FindsBatch}
@@ -36,7 +37,7 @@ returns-clause-answers c =
     c.in_ok-inject_batch.ensures.takes (record { entries = ap (λ (k : KeepState). k.entries) c.inject_batch.ensures.keep; records = refl }))
 
 pub returns-in_err-inject_batch-clause-draws : goal.returns-in_err-inject_batch-clause-draws
-returns-in_err-inject_batch-clause-draws c = ap (λ (k : KeepState). k.next) c.inject_batch.ensures.keep
+returns-in_err-inject_batch-clause-draws c = ap supply c.inject_batch.ensures.keep
 
 pub returns-clause-draws : goal.returns-clause-draws
-returns-clause-draws c = ap (λ (k : KeepState). k.next) c.inject_batch.ensures.keep
+returns-clause-draws c = ap supply c.inject_batch.ensures.keep

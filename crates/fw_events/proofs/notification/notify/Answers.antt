@@ -4,6 +4,7 @@ use Rattle.fw_time.specs.Stamp.{Stamp}
 use Rattle.fw_flow.specs.declared.kind.Policy.TheVariants as policy
 use Rattle.fw_flow.specs.Dataflow.{Dataflow, kind_of, policy_of, is_notified_kind}
 use Rattle.fw_rollback.specs.declared.parts.Parts.{Parts}
+use Rattle.fw_running.specs.Drawn.{supply}
 use Rattle.fw_running.specs.Kept.{is_down}
 use Rattle.fw_running.proofs.BroughtUpLaws.{brought_up_shaped}
 use Rattle.fw_running.proofs.StepLaws.{step-did, step-fails, step-idle, step-refused_first}
@@ -76,14 +77,14 @@ returns-clause-answers g c =
     heard.takes))
 
 pub returns-in_err-at-clause-draws : goal.returns-in_err-at-clause-draws
-returns-in_err-at-clause-draws g c = draws_same (ap (λ (parts : Parts). parts.keep.next) c.find_notice.ensures.parts)
+returns-in_err-at-clause-draws g c = draws_same (ap (λ (parts : Parts). supply parts.keep) c.find_notice.ensures.parts)
 
 pub returns-in_default-clause-draws : goal.returns-in_default-clause-draws
-returns-in_default-clause-draws g c = draws_same (ap (λ (parts : Parts). parts.keep.next) c.find_notice.ensures.parts)
+returns-in_default-clause-draws g c = draws_same (ap (λ (parts : Parts). supply parts.keep) c.find_notice.ensures.parts)
 
 pub returns-in_err-notify_of-clause-draws : goal.returns-in_err-notify_of-clause-draws
 returns-in_err-notify_of-clause-draws g c =
-    draws_failed _ _ c.from_residual-in_err-notify_of.ensures.1 (draws_from c.notify_of.ensures.draws (ap (λ (parts : Parts). parts.keep.next) c.find_notice.ensures.parts))
+    draws_failed _ _ c.from_residual-in_err-notify_of.ensures.1 (draws_from c.notify_of.ensures.draws (ap (λ (parts : Parts). supply parts.keep) c.find_notice.ensures.parts))
 
 pub returns-clause-draws : goal.returns-clause-draws
-returns-clause-draws g c = draws_from c.notify_of.ensures.draws (ap (λ (parts : Parts). parts.keep.next) c.find_notice.ensures.parts)
+returns-clause-draws g c = draws_from c.notify_of.ensures.draws (ap (λ (parts : Parts). supply parts.keep) c.find_notice.ensures.parts)

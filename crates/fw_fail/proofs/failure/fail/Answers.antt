@@ -2,6 +2,7 @@ use Rattle.std.proofs.Common.{sym, ap, subst, ◌∙◌}
 use Rattle.std.proofs.lemmas.List.{take_all}
 use Rattle.fw_keep.specs.Stored.{IsStored}
 use Rattle.fw_running.specs.declared.running.Running.{Running}
+use Rattle.fw_running.specs.Drawn.{supply}
 use Rattle.fw_running.proofs.StepLaws.{inner-refused, ok-unfaulted}
 use Rattle.fw_fail.proofs.FailLaws.{HaveFailed, failed_none, next_more, fail-takes}
 use Rattle.fw_fail.proofs.failure.fail.Goals as goal
@@ -37,7 +38,7 @@ returns-clause-answers c =
     }
 
 pub returns-in_err-any-clause-draws : goal.returns-in_err-any-clause-draws
-returns-in_err-any-clause-draws c = ap (λ (r : Running). r.parts.keep.next) c.in_err-any.ensures.err ∙ c.loop-node.invariant.drawn
+returns-in_err-any-clause-draws c = ap (λ (r : Running). supply r.parts.keep) c.in_err-any.ensures.err ∙ c.loop-node.invariant.drawn
 
 pub returns-clause-draws : goal.returns-clause-draws
 returns-clause-draws c = c.loop-node.invariant.drawn

@@ -7,6 +7,7 @@ use Rattle.fw_rollback.specs.declared.parts.Parts.{Parts}
 use Rattle.fw_running.specs.declared.stepped.Effect.TheVariants.{Cuts}
 use Rattle.fw_running.specs.declared.stepped.Stepped.{Stepped}
 use Rattle.fw_running.specs.declared.stepped.Stepped.TheVariants.{Did}
+use Rattle.fw_running.specs.Drawn.{supply}
 use Rattle.fw_running.specs.Faults.{fault_of}
 use Rattle.fw_running.specs.Shaped.{IsShaped}
 use Rattle.fw_running.proofs.AnswerLaws.{no_damage}
@@ -15,7 +16,6 @@ use Rattle.fw_running.proofs.StepLaws.{busy, fault-counts, recovery-answers, rec
 use Rattle.fw_recover.proofs.FollowedLaws.{followed-recovered, followed-shaped, queues-at_receivers}
 use Rattle.fw_recover.proofs.RecoverStepLaws.{held-done, held-idle, recovery-done, recovery-shows, refused-damage, refused-held, refused-stands, some-down, unanswered-held}
 use Rattle.fw_running.proofs.DrawnLaws.{draws_none}
-use Rattle.fw_keep.specs.Catalogue.{KeepState}
 use Rattle.fw_recover.proofs.recovery.recover.Goals as goal
 
 pub returns-then-not-any_of-clause-held : goal.returns-then-not-any_of-clause-held
@@ -117,14 +117,14 @@ returns-clause-held g c =
     (held-done old c.follow.new.running records choice c.requires.shaped some c.in_ok-choice.ensures.of_held made)
 
 pub returns-in_err-restore-clause-draws : goal.returns-in_err-restore-clause-draws
-returns-in_err-restore-clause-draws g c = draws_none (ap (λ (parts : Parts). parts.keep.next) c.in_err-restore.ensures.kept) c.restore.ensures.stays
+returns-in_err-restore-clause-draws g c = draws_none (ap (λ (parts : Parts). supply parts.keep) c.in_err-restore.ensures.kept) c.restore.ensures.stays
 
 pub returns-in_err-follow-clause-draws : goal.returns-in_err-follow-clause-draws
 returns-in_err-follow-clause-draws g c =
-    draws_none (ap (λ (parts : Parts). parts.keep.next) c.follow.ensures.parts ∙ ap (λ (k : KeepState). k.next) c.in_ok-restore.ensures.restored.restored.entries)
+    draws_none (ap (λ (parts : Parts). supply parts.keep) c.follow.ensures.parts ∙ ap supply c.in_ok-restore.ensures.restored.restored.entries)
     c.restore.ensures.stays
 
 pub returns-clause-draws : goal.returns-clause-draws
 returns-clause-draws g c =
-    draws_none (ap (λ (parts : Parts). parts.keep.next) c.follow.ensures.parts ∙ ap (λ (k : KeepState). k.next) c.in_ok-restore.ensures.restored.restored.entries)
+    draws_none (ap (λ (parts : Parts). supply parts.keep) c.follow.ensures.parts ∙ ap supply c.in_ok-restore.ensures.restored.restored.entries)
     c.restore.ensures.stays

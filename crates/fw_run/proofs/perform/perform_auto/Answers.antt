@@ -14,6 +14,7 @@ pub loop-init : goal.loop-init
 loop-init g c = record {
   stored = c.requires.stored;
   in_order = c.requires.in_order;
+  shared = refl;
   told_before = λ told. told;
   flow = refl;
   faults = refl;
@@ -33,6 +34,7 @@ loop-preserved g c =
     record {
       stored = c.auto_step.ensures.stored;
       in_order = c.auto_step.ensures.in_order;
+      shared = c.auto_step.ensures.draws.shared ∙ c.loop.invariant.shared;
       told_before = λ told. c.loop.invariant.told_before (sym c.auto_step.ensures.tells ∙ told);
       flow = c.auto_step.ensures.flow ∙ c.loop.invariant.flow;
       faults = c.in_ok-stepped.ensures.faults ∙ c.loop.invariant.faults;

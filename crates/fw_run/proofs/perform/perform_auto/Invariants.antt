@@ -12,6 +12,7 @@ abbrev pub invariant-loop : goal.invariant-loop
 invariant-loop g l = record {
   stored : IsStored (keep_of l.engine) (g.K.Store.view l.store).records;
   in_order : AreAscending (ids_of (keep_of l.engine).entries);
+  shared : (keep_of l.engine).shared ≡ (keep_of l.fn.engine).shared;
   told_before : IsSome (g.K.Store.view l.store).records → IsSome (g.K.Store.view l.fn.store).records;
   flow : flow_of l.engine ≡ flow_of l.fn.engine;
   faults : (g.K.Store.view l.store).faults ≡ (g.K.Store.view l.fn.store).faults;

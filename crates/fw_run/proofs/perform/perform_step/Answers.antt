@@ -4,6 +4,7 @@ use Rattle.fw_outside.specs.declared.fault.OutFault.TheVariants as output
 use Rattle.fw_schedule.specs.declared.item.Item.TheVariants.{One}
 use Rattle.fw_running.specs.declared.stepped.Stepped.{Stepped}
 use Rattle.fw_running.specs.Steps.{outcome_of}
+use Rattle.fw_engine.proofs.EngineLaws.{shared-stays}
 use Rattle.fw_run.proofs.FaultCounts.{told_after}
 use Rattle.fw_command.specs.Manner.{showing_in}
 use Rattle.fw_run.proofs.ItemPrintLaws.{AreTold, step_stopped, step_begun, step_taken, few_stopped, few_taken, few_cut}
@@ -36,7 +37,7 @@ returns-in_err-print-clause-printed g c =
     let view = g.O.Sink.view in
     let told : AreTold (showing_in c.args.showing) c.args.engine.now (known c.args.store.now).records c.args.step.now c.deref.result.now =
     subst (AreTold (showing_in c.args.showing) c.args.engine.now (known c.args.store.now).records c.args.step.now) (sym c.deref.ensures) (c.in_ok-reasons.ensures (known c.args.store.now).records) in
-    rw (p.1, p.2) (step_begun (showing_in c.args.showing) c.args.engine.now c.step.new.self (known c.args.store.now).records (known c.step.new.store).records c.args.step.now c.args.tally.now c.count.new.self c.flow.result.now c.in_ok-stepped.stepped c.deref.result.now _ (view c.args.out.now) (view c.print.new.out) c.flow.ensures told c.in_ok-stepped.ensures.ok c.in_err-print.ensures)
+    rw (p.1, p.2) (step_begun (showing_in c.args.showing) c.args.engine.now c.step.new.self (known c.args.store.now).records (known c.step.new.store).records c.args.step.now c.args.tally.now c.count.new.self c.flow.result.now c.in_ok-stepped.stepped c.deref.result.now _ (view c.args.out.now) (view c.print.new.out) c.flow.ensures told c.in_ok-stepped.ensures.ok c.in_ok-stepped.ensures.swept c.in_err-print.ensures)
 
 pub returns-in_err-print-clause-few : goal.returns-in_err-print-clause-few
 returns-in_err-print-clause-few g c =
@@ -51,7 +52,7 @@ returns-clause-printed g c =
     let view = g.O.Sink.view in
     let told : AreTold (showing_in c.args.showing) c.args.engine.now (known c.args.store.now).records c.args.step.now c.deref.result.now =
     subst (AreTold (showing_in c.args.showing) c.args.engine.now (known c.args.store.now).records c.args.step.now) (sym c.deref.ensures) (c.in_ok-reasons.ensures (known c.args.store.now).records) in
-    step_taken (showing_in c.args.showing) c.args.engine.now c.step.new.self (known c.args.store.now).records (known c.step.new.store).records c.args.step.now c.args.tally.now c.count.new.self c.flow.result.now c.in_ok-stepped.stepped c.deref.result.now tt (view c.args.out.now) (view c.print.new.out) c.flow.ensures told c.in_ok-stepped.ensures.ok c.count.ensures c.in_ok-print.ensures
+    step_taken (showing_in c.args.showing) c.args.engine.now c.step.new.self (known c.args.store.now).records (known c.step.new.store).records c.args.step.now c.args.tally.now c.count.new.self c.flow.result.now c.in_ok-stepped.stepped c.deref.result.now tt (view c.args.out.now) (view c.print.new.out) c.flow.ensures told c.in_ok-stepped.ensures.ok c.in_ok-stepped.ensures.swept c.count.ensures c.in_ok-print.ensures
 
 pub returns-clause-few : goal.returns-clause-few
 returns-clause-few g c =
@@ -74,3 +75,12 @@ pub returns-in_err-reasons-clause-few : goal.returns-in_err-reasons-clause-few
 returns-in_err-reasons-clause-few g c =
     let p = err_from_is_err_and c.from_residual.result c.from_residual.ensures.1 in
     rw (p.1, p.2) (few_cut (Unit {0}) (One c.args.step.now) 0 c.args.tally.now c.args.tally.now output.NoMemory c.requires.room.of_steps (omega arith) (omega arith))
+
+pub returns-in_err-stepped-clause-shared : goal.returns-in_err-stepped-clause-shared
+returns-in_err-stepped-clause-shared g c = shared-stays c.args.step.now c.step.ensures
+
+pub returns-in_err-print-clause-shared : goal.returns-in_err-print-clause-shared
+returns-in_err-print-clause-shared g c = shared-stays c.args.step.now c.step.ensures
+
+pub returns-clause-shared : goal.returns-clause-shared
+returns-clause-shared g c = shared-stays c.args.step.now c.step.ensures

@@ -1,7 +1,8 @@
-use Rattle.std.proofs.Common.{sym, subst, Ok, Err}
+use Rattle.std.proofs.Common.{sym, ap, subst, Ok, Err}
 use Rattle.std.proofs.lemmas.Result.{err_from_is_err_and}
 use Rattle.std.specs.Prelude.{IsSome}
 use Rattle.fw_flow.specs.Dataflow.{system_of}
+use Rattle.fw_keep.specs.Catalogue.{KeepState}
 use Rattle.fw_run.proofs.EndLaws.{ends-taken, ends-stopped, ends-not_begun, stays_last, stays_seen}
 use Rattle.fw_run.specs.Ends.{first_point, seen}
 use Rattle.fw_run.specs.Enduring.{RoseBy}
@@ -54,3 +55,6 @@ returns-clause-nothing_told g c engine e off =
 
 pub take-requires-clause-stored : goal.take-requires-clause-stored
 take-requires-clause-stored g c = c.in_ok-engine.ensures.stored (g.K.Store.view c.args.store.now).records c.requires.store
+
+pub take-requires-clause-alone : goal.take-requires-clause-alone
+take-requires-clause-alone g c = ap (λ (keep : KeepState). keep.shared) c.in_ok-engine.ensures.writes

@@ -19,6 +19,7 @@ pub loop-item-init : goal.loop-item-init
 loop-item-init g c = record {
   stored = c.requires.stored;
   in_order = c.requires.in_order;
+  alone = c.requires.alone;
   told_before = λ told. told;
   flow = refl;
   of_steps = c.requires.of_steps;
@@ -42,6 +43,7 @@ loop-item-preserved g c =
     record {
       stored = taken.stored;
       in_order = taken.in_order;
+      alone = taken.shared ∙ inv.alone;
       told_before = λ told. inv.told_before (taken.told_before told);
       flow = taken.flow ∙ inv.flow;
       of_steps = taken.of_steps;
@@ -73,7 +75,7 @@ returns-in_err-take_item-clause-taken g c sys from e st =
       ends-at course tells sys from c.args.items.now c.loop-item.item-index c.args.engine.now c.loop-item.engine c.take_item.new.engine (known c.args.store.now).records
           (known c.loop-item.store).records (known c.take_item.new.store).records (known c.take_item.new.store).given c.item-item.result c.loop-item.tally c.take_item.new.tally
           (known c.args.store.now).faults (known c.loop-item.store).faults (known c.take_item.new.store).faults _ (view c.args.out.now) (view c.loop-item.out) (view c.take_item.new.out) st inv.flow none
-          (λ told. told) u c.loop-item-test.true c.item-item.is c.take_item.ensures.in_order at.printed inv.rose_by at.stops at.in_recovery at.damaged,
+          (λ told. told) u c.loop-item-test.true c.item-item.is c.take_item.ensures.in_order c.take_item.ensures.stored (c.take_item.ensures.shared ∙ inv.alone) at.printed inv.rose_by at.stops at.in_recovery at.damaged,
     )
 
 pub returns-in_err-take_item-clause-told_before : goal.returns-in_err-take_item-clause-told_before
@@ -101,7 +103,7 @@ returns-clause-taken g c sys from e st =
     let view = g.O.Sink.view in
     let inv = c.loop-item.invariant in (
       taken-all (course_in c.args.course) (IsSome (known c.loop-item.store).records) sys from c.args.items.now c.loop-item.item-index c.loop-item.engine (known c.loop-item.store).records
-          c.loop-item.tally (view c.args.out.now) (view c.loop-item.out) inv.in_order (inv.taken sys from e st) c.loop-item-test.false,
+          c.loop-item.tally (view c.args.out.now) (view c.loop-item.out) inv.in_order inv.stored inv.alone (inv.taken sys from e st) c.loop-item-test.false,
       inv.rose_by,
     )
 

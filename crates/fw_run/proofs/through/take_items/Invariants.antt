@@ -5,6 +5,7 @@ use Rattle.fw_schedule.specs.Schedule.{step_count}
 use Rattle.fw_keep.specs.Catalogue.{AreAscending, ids_of}
 use Rattle.fw_keep.specs.Stored.{IsStored}
 use Rattle.fw_engine.specs.Engine.{flow_of, keep_of, StandsFor}
+use Rattle.fw_run.proofs.StandingLaws.{StandsBehind}
 use Rattle.fw_run.specs.Enduring.{Point, RoseBy}
 use Rattle.fw_run.specs.Tallies.{AreOfSteps}
 use Rattle.fw_run.specs.Through.{AreTaken}
@@ -17,6 +18,7 @@ abbrev pub invariant-loop-item : goal.invariant-loop-item
 invariant-loop-item g l = record {
   stored : IsStored (keep_of l.engine) (g.K.Store.view l.store).records;
   in_order : AreAscending (ids_of (keep_of l.engine).entries);
+  alone : (keep_of l.engine).shared ≡ false;
   told_before : IsSome (g.K.Store.view l.store).records → IsSome (g.K.Store.view l.fn.store).records;
   flow : flow_of l.engine ≡ flow_of l.fn.engine;
   of_steps : AreOfSteps l.tally;
@@ -25,5 +27,5 @@ invariant-loop-item g l = record {
   rose_by : RoseBy (g.K.Store.view l.fn.store).faults (g.K.Store.view l.store).faults l.tally.faults;
   taken : (sys : System) (from : Point) → from.counts ≡ l.fn.tally → StandsFor sys l.fn.engine (g.K.Store.view l.fn.store).records from.state
       → AreTaken (course_in l.course) (IsSome (g.K.Store.view l.store).records) sys from l.items l.item-index l.tally
-      (StandsFor sys l.engine (g.K.Store.view l.store).records) (g.O.Sink.view l.fn.out) (g.O.Sink.view l.out);
+      (StandsBehind sys l.engine (g.K.Store.view l.store).records) (g.O.Sink.view l.fn.out) (g.O.Sink.view l.out);
 }

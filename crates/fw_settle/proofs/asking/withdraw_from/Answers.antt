@@ -1,5 +1,6 @@
 use Rattle.std.proofs.Common.{◌≡◌, ◌<◌, length, get_or, ap, subst, ◌∙◌}
 use Rattle.fw_keep.specs.Catalogue.{KeepState}
+use Rattle.fw_running.specs.Drawn.{supply}
 use Rattle.fw_settle.proofs.WithdrawLaws.{withdrawn-some}
 use Rattle.fw_settle.proofs.asking.withdraw_from.Goals as goal
 
@@ -15,4 +16,4 @@ returns-clause-withdrawn c = λ before more is long fly.
     (subst (λ es. first ≡ get_or es c.args.count first) c.entries-entries.ensures.all got) before more is long fly
 
 pub returns-clause-draws : goal.returns-clause-draws
-returns-clause-draws c = ap (λ (k : KeepState). k.next) c.withdraw.ensures.gone
+returns-clause-draws c = ap supply c.withdraw.ensures.gone

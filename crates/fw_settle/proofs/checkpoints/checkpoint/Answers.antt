@@ -11,6 +11,7 @@ use Rattle.fw_running.proofs.SameStateLaws.{unasked-stands}
 use Rattle.fw_running.proofs.StepLaws.{stays-shaped, step-did, step-fails, step-idle, step-refused, step-refused_first}
 use Rattle.fw_settle.proofs.AskLaws.{asking-part}
 use Rattle.fw_running.specs.declared.running.Running.{Running}
+use Rattle.fw_running.specs.Drawn.{supply}
 use Rattle.fw_settle.specs.Checkpoints.{AsksCheckpoint}
 use Rattle.fw_settle.specs.Settling.{settles_when_asked, SettlesTableIf}
 use Rattle.fw_settle.proofs.WritesLaws.{checkpoint-enabled, may-follows, may_not-idle, may-there}
@@ -119,10 +120,10 @@ returns-clause-answers g c =
 pub returns-in_err-settle_when_asked-clause-draws : goal.returns-in_err-settle_when_asked-clause-draws
 returns-in_err-settle_when_asked-clause-draws g c =
     draws_failed _ _ c.from_residual-in_err-settle_when_asked.ensures.1
-    (draws_next c.ask_checkpoint.ensures.draws (ap (λ (r : Running). r.parts.keep.next) c.settle_when_asked.ensures.others))
+    (draws_next c.ask_checkpoint.ensures.draws (ap (λ (r : Running). supply r.parts.keep) c.settle_when_asked.ensures.others))
 
 pub returns-clause-draws : goal.returns-clause-draws
-returns-clause-draws g c = draws_next c.ask_checkpoint.ensures.draws (ap (λ (r : Running). r.parts.keep.next) c.settle_when_asked.ensures.others)
+returns-clause-draws g c = draws_next c.ask_checkpoint.ensures.draws (ap (λ (r : Running). supply r.parts.keep) c.settle_when_asked.ensures.others)
 
 pub returns-in_err-ask_checkpoint-clause-draws : goal.returns-in_err-ask_checkpoint-clause-draws
 returns-in_err-ask_checkpoint-clause-draws g c = draws_failed _ _ c.from_residual-in_err-ask_checkpoint.ensures.1 c.ask_checkpoint.ensures.draws

@@ -2,6 +2,7 @@ use Rattle.std.proofs.Common.{◌≡◌, rules, Some, None, refl, sym, subst, ap
 use Rattle.fw_flow.specs.declared.step.Step.TheVariants.{Persist}
 use Rattle.fw_keep.specs.Catalogue.{KeepState, oldest}
 use Rattle.fw_model.specs.Steps.{did, idle, silent}
+use Rattle.fw_running.specs.Drawn.{supply}
 use Rattle.fw_running.specs.Logging.{with_keep}
 use Rattle.fw_running.specs.Steps.{Follows}
 use Rattle.fw_running.proofs.StepLaws.{ok-unfaulted}
@@ -39,7 +40,7 @@ returns-in-None-clause-answers c =
     }
 
 pub returns-in-Some-clause-draws : goal.returns-in-Some-clause-draws
-returns-in-Some-clause-draws c = ap (λ (k : KeepState). k.next) c.persist_one.ensures.acknowledged
+returns-in-Some-clause-draws c = ap supply c.persist_one.ensures.acknowledged
 
 pub returns-in-None-clause-draws : goal.returns-in-None-clause-draws
-returns-in-None-clause-draws c = ap (λ (k : KeepState). k.next) c.persist_one.ensures.acknowledged
+returns-in-None-clause-draws c = ap supply c.persist_one.ensures.acknowledged

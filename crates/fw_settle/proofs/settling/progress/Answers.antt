@@ -6,7 +6,7 @@ use Rattle.fw_settle.proofs.AskLaws.{part-eager}
 use Rattle.fw_settle.specs.Settling.{IsFoundToSettle}
 use Rattle.fw_settle.proofs.ProgressLaws.{idle-takes, did-takes, fault-takes, progresses, up-asks}
 use Rattle.fw_flow.specs.Dataflow.{Dataflow}
-use Rattle.fw_running.specs.Drawn.{DrawsAtMost}
+use Rattle.fw_running.specs.Drawn.{DrawsAtMost, supply}
 use Rattle.fw_running.proofs.DrawnLaws.{draws_failed, draws_from, draws_kept, draws_same}
 use Rattle.fw_settle.proofs.settling.progress.Goals as goal
 
@@ -71,26 +71,26 @@ returns-clause-answers g c =
     busy
 
 pub returns-in_err-refresh-clause-draws : goal.returns-in_err-refresh-clause-draws
-returns-in_err-refresh-clause-draws g c = draws_same (ap (λ (parts : Parts). parts.keep.next) c.refresh.ensures.parts)
+returns-in_err-refresh-clause-draws g c = draws_same (ap (λ (parts : Parts). supply parts.keep) c.refresh.ensures.parts)
 
 pub returns-in_default-clause-draws : goal.returns-in_default-clause-draws
-returns-in_default-clause-draws g c = draws_same (ap (λ (parts : Parts). parts.keep.next) c.refresh.ensures.parts)
+returns-in_default-clause-draws g c = draws_same (ap (λ (parts : Parts). supply parts.keep) c.refresh.ensures.parts)
 
 pub returns-in_err-ask_eager-clause-draws : goal.returns-in_err-ask_eager-clause-draws
 returns-in_err-ask_eager-clause-draws g c =
     let few = subst (λ (f : Dataflow). DrawsAtMost (length f.nodes) c.refresh.new.self.parts.keep c.ask_eager.new.running.parts.keep
     (g.K.Store.view c.args.store.now).records (g.K.Store.view c.ask_eager.new.store).records) c.refresh.ensures.flow c.ask_eager.ensures.draws in
-    draws_failed _ _ c.from_residual-in_err-ask_eager.ensures.1 (draws_from few (ap (λ (parts : Parts). parts.keep.next) c.refresh.ensures.parts))
+    draws_failed _ _ c.from_residual-in_err-ask_eager.ensures.1 (draws_from few (ap (λ (parts : Parts). supply parts.keep) c.refresh.ensures.parts))
 
 pub returns-in_err-settle_grown-clause-draws : goal.returns-in_err-settle_grown-clause-draws
 returns-in_err-settle_grown-clause-draws g c =
     let few = subst (λ (f : Dataflow). DrawsAtMost (length f.nodes) c.refresh.new.self.parts.keep c.ask_eager.new.running.parts.keep
     (g.K.Store.view c.args.store.now).records (g.K.Store.view c.ask_eager.new.store).records) c.refresh.ensures.flow c.ask_eager.ensures.draws in
     draws_failed _ _ c.from_residual-in_err-settle_grown.ensures.1
-    (draws_kept (draws_from few (ap (λ (parts : Parts). parts.keep.next) c.refresh.ensures.parts)) c.settle_grown.ensures.keep)
+    (draws_kept (draws_from few (ap (λ (parts : Parts). supply parts.keep) c.refresh.ensures.parts)) c.settle_grown.ensures.keep)
 
 pub returns-clause-draws : goal.returns-clause-draws
 returns-clause-draws g c =
     let few = subst (λ (f : Dataflow). DrawsAtMost (length f.nodes) c.refresh.new.self.parts.keep c.ask_eager.new.running.parts.keep
     (g.K.Store.view c.args.store.now).records (g.K.Store.view c.ask_eager.new.store).records) c.refresh.ensures.flow c.ask_eager.ensures.draws in
-    draws_kept (draws_from few (ap (λ (parts : Parts). parts.keep.next) c.refresh.ensures.parts)) c.settle_grown.ensures.keep
+    draws_kept (draws_from few (ap (λ (parts : Parts). supply parts.keep) c.refresh.ensures.parts)) c.settle_grown.ensures.keep

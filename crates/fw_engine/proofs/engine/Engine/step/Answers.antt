@@ -18,4 +18,4 @@ returns-then-self g c = step-refused c.if-self.true c.requires.stored c.ids_asce
 pub returns : goal.returns
 returns g c =
     let stepped = c.take-stepped.ensures in
-    step-answered c.if-self.false c.ids_ascend-2.ensures c.is_refusal-self.ensures stepped.answers stepped.draws
+    step-answered c.if-self.false c.ids_ascend-2.ensures c.is_refusal-self.ensures stepped.answers stepped.draws stepped.undrawn

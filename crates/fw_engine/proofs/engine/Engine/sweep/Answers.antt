@@ -2,6 +2,7 @@ use Rattle.std.proofs.Common.{Err, refl, sym, ap, ◌∙◌}
 use Rattle.std.proofs.Math.Logic.{∥∥₁_map}
 use Rattle.std.proofs.lemmas.Result.{err_from_is_err_and}
 use Rattle.fw_choose.proofs.CollectLaws.{swept-shaped}
+use Rattle.fw_running.proofs.DrawnLaws.{supply_same}
 use Rattle.fw_engine.proofs.HeldLaws.{answer_of, sweep-answered, sweep-refused}
 use Rattle.fw_engine.proofs.engine.Engine.sweep.Goals as goal
 
@@ -19,10 +20,10 @@ returns-in_err-swept g c =
     let swept = c.sweep-swept.ensures in
     let p = err_from_is_err_and c.from_residual.result c.from_residual.ensures.1 in
     sweep-answered c.sweep-swept.result (p.1 ∙ ap Err p.2 ∙ sym (ap answer_of c.in_err-swept.was)) c.if-self.false c.is_catalogue.ensures
-    c.lacks_memory-self.ensures refl swept.kept swept.drawn swept.stored swept.swept swept.bytes swept.clean swept.faults swept.undamaged
+    c.lacks_memory-self.ensures refl swept.kept (supply_same c.args.self.now.running.parts.keep c.sweep-swept.new.self swept.drawn swept.shared) swept.stored swept.swept swept.bytes swept.clean swept.faults swept.undamaged
 
 pub returns : goal.returns
 returns g c =
     let swept = c.sweep-swept.ensures in
     sweep-answered c.sweep-swept.result (sym (ap answer_of c.in_ok-swept.was)) c.if-self.false c.is_catalogue.ensures c.lacks_memory-self.ensures refl
-    swept.kept swept.drawn swept.stored swept.swept swept.bytes swept.clean swept.faults swept.undamaged
+    swept.kept (supply_same c.args.self.now.running.parts.keep c.sweep-swept.new.self swept.drawn swept.shared) swept.stored swept.swept swept.bytes swept.clean swept.faults swept.undamaged

@@ -1,10 +1,10 @@
 -- What each call may leave, and the moments of calls one after the other.
-use Rattle.std.proofs.Common.{◌≡◌, ◌⊎◌, inl, inr, ⊎_elim, ℕ, zero, suc, ◌==◌, ◌≤◌, Bool, true, false, ◌&&◌, ◌||◌, List, [], ◌∷◌, ◌++◌, length, Option, Some, None, refl, sym, ap, subst, ◌∙◌, eqb-true, eq-eqb, append_assoc, arith}
+use Rattle.std.proofs.Common.{◌≡◌, ◌⊎◌, inl, inr, ⊎_elim, ℕ, ◌==◌, Bool, true, false, ◌&&◌, ◌||◌, List, [], ◌∷◌, ◌++◌, Option, Some, None, refl, sym, ap, subst, ◌∙◌, eqb-true, eq-eqb, append_assoc}
 use Rattle.std.specs.List.{list_all}
 use Rattle.fw_disk.specs.declared.cause.DiskPlace.{DiskPlace}
 use Rattle.fw_disk.specs.declared.cause.DiskPlace.TheVariants.{Folder, Record, Beside, Run, RunBeside}
 use Rattle.fw_disk.specs.FolderCalls.{FolderCall, made, appended, flushed, linked, renamed, removed, folder_flushed, seen_empty, is_place, is_run, is_of_run, AreOfRun}
-use Rattle.fw_disk.specs.PowerLoss.{Disk, DiskFile, kept, written, torn, most_of, flush_of, IsUpTo, Becomes, Possible, Either, MayBecome, MayGo, after, MayBeThere, is_flush, MayLast, MayBeLeft, EachMoment, AtEachMoment}
+use Rattle.fw_disk.specs.PowerLoss.{Disk, DiskFile, Becomes, Possible, Either, MayVanish, after_call, ThereAfter, is_settled, LastsAfter, MayBeThere, MayLast, MayBeLeft, EachMoment, AtEachMoment}
 use Rattle.fw_disk.specs.Survival.{IsNoRecord, MayHaveNone, IsOldOr}
 
 -- ---- one of two, by a test
@@ -36,10 +36,11 @@ neither : (a b : Bool) → (a || b) ≡ false → (a ≡ false) × (b ≡ false)
 neither true b e = absurd (cc)
 neither false b e = (refl, e)
 
-pub untouched : (before : Possible) (call : FolderCall) (other : DiskPlace) (f : Option DiskFile) → touches call other ≡ false → after call before other f → before other f
+pub untouched : (before : Possible) (call : FolderCall) (other : DiskPlace) (f : Option DiskFile) → touches call other ≡ false → after_call call before other f → before other f
 untouched before (made place bytes true) other f t s = second (is_place other place) _ _ t s
 untouched before (made place bytes false) other f t s = second (is_place other place) _ _ t s
-untouched before (appended place bytes done) other f t s = second (is_place other place) _ _ t s
+untouched before (appended place bytes true) other f t s = second (is_place other place) _ _ t s
+untouched before (appended place bytes false) other f t s = second (is_place other place) _ _ t s
 untouched before (flushed place true) other f t s = second (is_place other place) _ _ t s
 untouched before (flushed place false) other f t s = second (is_place other place) _ _ t s
 untouched before (linked from to true) other f t s = second (is_place other to) _ _ t s
@@ -88,9 +89,37 @@ module _ (start : Disk) where
   choose true A B x = x
   choose false A B x = inr x
 
+  lasts_at : (l : List FolderCall) (place : DiskPlace) (f : Option DiskFile) → ThereAfter start.had l place f → LastsAfter start.had l place f
+  lasts_at [] place f s = s
+  lasts_at (call ∷ l) place f s = choose (is_settled place (call ∷ l)) (LastsAfter start.had l place f) (ThereAfter start.had (call ∷ l) place f) s
+
   pub there_lasts : (h : List FolderCall) (place : DiskPlace) (f : Option DiskFile) → MayBeThere start h place f → MayLast start h place f
-  there_lasts [] place f s = s
-  there_lasts (call ∷ h) place f s = choose (is_flush call) (MayLast start h place f) (MayBeThere start (call ∷ h) place f) s
+  there_lasts h place f s = lasts_at (h ++ start.earlier) place f s
+
+  -- what the disk may have under a name that is not settled, it may have still
+  earlier : (b : Bool) (A B : Type 0) → b ≡ false → A → Either b B (A ⊎ B)
+  earlier true A B e x = absurd (cc)
+  earlier false A B e x = inl x
+
+  pub lasts_still : (call : FolderCall) (h : List FolderCall) (place : DiskPlace) (f : Option DiskFile) → is_settled place ((call ∷ h) ++ start.earlier) ≡ false → MayLast start h place f → MayLast start (call ∷ h) place f
+  lasts_still call h place f e l = earlier (is_settled place ((call ∷ h) ++ start.earlier)) (MayLast start h place f) (MayBeThere start (call ∷ h) place f) e l
+
+  -- and under one that is settled, it has what is there
+  first : (b : Bool) (A B : Type 0) → b ≡ true → Either b B (A ⊎ B) → B
+  first true A B e x = x
+  first false A B e x = absurd (cc)
+
+  pub settled_there : (l : List FolderCall) (place : DiskPlace) (f : Option DiskFile) → is_settled place l ≡ true → LastsAfter start.had l place f → ThereAfter start.had l place f
+  settled_there [] place f e x = x
+  settled_there (call ∷ l) place f e x = first (is_settled place (call ∷ l)) (LastsAfter start.had l place f) (ThereAfter start.had (call ∷ l) place f) e x
+
+  -- the names were to be flushed, and that was refused
+  pub lasts_refused : (h : List FolderCall) (place : DiskPlace) (f : Option DiskFile) → MayLast start h place f → MayLast start (folder_flushed false ∷ h) place f
+  lasts_refused h place f l = by (is_settled place (h ++ start.earlier)) refl
+    where
+      by : (b : Bool) → is_settled place (h ++ start.earlier) ≡ b → MayLast start (folder_flushed false ∷ h) place f
+      by true e = there_lasts (folder_flushed false ∷ h) place f (settled_there (h ++ start.earlier) place f e l)
+      by false e = lasts_still (folder_flushed false) h place f e l
 
   pub parts : (b : Bool) (A B : Type 0) → Either b B (A ⊎ B) → A ⊎ B
   parts true A B x = inr x
@@ -98,7 +127,7 @@ module _ (start : Disk) where
 
   -- what the disk may have after a call, it may have had before, or it is there now
   pub lasted : (call : FolderCall) (h : List FolderCall) (place : DiskPlace) (f : Option DiskFile) → MayLast start (call ∷ h) place f → MayLast start h place f ⊎ MayBeThere start (call ∷ h) place f
-  lasted call h place f = parts (is_flush call) (MayLast start h place f) (MayBeThere start (call ∷ h) place f)
+  lasted call h place f = parts (is_settled place ((call ∷ h) ++ start.earlier)) (MayLast start h place f) (MayBeThere start (call ∷ h) place f)
 
   -- a place that a call says nothing of
   pub left_before : (call : FolderCall) (h : List FolderCall) (place : DiskPlace) (found : Option (List ℕ)) → touches call place ≡ false → MayBeLeft start (call ∷ h) place found → MayBeLeft start h place found
@@ -212,14 +241,14 @@ module _ (MayBeNew : ℕ → Option (List ℕ) → Type 0) (may_be_none : (id : 
 
   -- a record's name is taken away, where there may have been no record
   pub at_removed : (h : List FolderCall) (id : ℕ) (done : Bool) → ((f : Option DiskFile) → MayBeThere start h (Record id) f → MayHaveNone start h id) → Good h (removed (Record id) done ∷ h)
-  at_removed h id true free = at_record h (removed (Record id) true) id (MayGo (MayBeThere start h) (Record id)) (λ other f s. s) (gone h id free)
+  at_removed h id true free = at_record h (removed (Record id) true) id (MayVanish (MayBeThere start h) (Record id)) (λ other f s. s) (gone h id free)
     where
       gone : (h : List FolderCall) (id : ℕ) → ((f : Option DiskFile) → MayBeThere start h (Record id) f → MayHaveNone start h id)
-          → (f : Option DiskFile) (found : Option (List ℕ)) → MayGo (MayBeThere start h) (Record id) f → Becomes f found → Goal id found h
+          → (f : Option DiskFile) (found : Option (List ℕ)) → MayVanish (MayBeThere start h) (Record id) f → Becomes f found → Goal id found h
       gone h id free f found g b = no_record h id found (free (Some g.0) g.1) (inl (subst (λ f. Becomes f found) g.2 b))
   at_removed h id false free =
-      at_record h (removed (Record id) false) id (λ f. MayBeThere start h (Record id) f ⊎ MayGo (MayBeThere start h) (Record id) f) (λ other f s. s)
-      (λ f found n b. ⊎_elim (λ s. was_there h id f found s b) (λ (g : MayGo (MayBeThere start h) (Record id) f). no_record h id found (free (Some g.0) g.1) (inl (subst (λ f. Becomes f found) g.2 b))) n)
+      at_record h (removed (Record id) false) id (λ f. MayBeThere start h (Record id) f ⊎ MayVanish (MayBeThere start h) (Record id) f) (λ other f s. s)
+      (λ f found n b. ⊎_elim (λ s. was_there h id f found s b) (λ (g : MayVanish (MayBeThere start h) (Record id) f). no_record h id found (free (Some g.0) g.1) (inl (subst (λ f. Becomes f found) g.2 b))) n)
 
   -- a record's file was seen to have no bytes
   pub at_seen_empty : (h : List FolderCall) (id : ℕ) → Good h (seen_empty (Record id) ∷ h)

@@ -1,11 +1,11 @@
 -- The moments of a put under an id, and of a removal.
-use Rattle.std.proofs.Common.{◌≡◌, ◌⊎◌, inl, inr, ⊎_elim, ℕ, zero, ◌==◌, ◌≤◌, Bool, true, false, List, [], ◌∷◌, ◌++◌, length, Option, Some, None, refl, sym, ap, subst, ◌∙◌, eqb-true, arith}
+use Rattle.std.proofs.Common.{◌≡◌, ◌⊎◌, inl, inr, ⊎_elim, ℕ, ◌==◌, ◌≤◌, Bool, true, false, not, ◌&&◌, List, [], ◌∷◌, ◌++◌, length, Option, Some, None, refl, sym, ap, subst, ◌∙◌, eqb-true, eq-eqb, arith}
 use Rattle.std.specs.List.{list_all}
 use Rattle.fw_disk.specs.declared.cause.DiskPlace.TheVariants.{Record, Beside}
 use Rattle.fw_disk.specs.FolderCalls.{FolderCall, made, flushed, linked, renamed, removed, folder_flushed, seen_empty, is_of_run, IsRefused, AreOfRun}
-use Rattle.fw_disk.specs.PowerLoss.{Disk, DiskFile, kept, written, torn, most_of, flush_of, IsUpTo, Becomes, MayBecome, MayGo, MayBeThere, MayLast, MayBeLeft, AtEachMoment}
-use Rattle.fw_disk.specs.Survival.{IsNoRecord, MayHaveNone, IsOld, MayBePut, IsOldOrNew, IsOldOrGone, IsOnDisk, IsGone, IsReady, IsNamed}
-use Rattle.fw_disk.proofs.Moments.{both, at_same, on_either, untouched, run_untouched, there_lasts, lasted, left_before, last, weakened, chained, begun, followed, by_call, adds, quiet, run_moments, no_record, was_there, may_have_none, none_there, at_record, at_removed, at_seen_empty, free_when_empty}
+use Rattle.fw_disk.specs.PowerLoss.{Disk, DiskFile, kept, written, torn, most_of, flush_of, IsUpTo, Becomes, MayBecome, MayVanish, MayBeThere, MayLast, MayBeLeft, AtEachMoment}
+use Rattle.fw_disk.specs.Survival.{IsNoRecord, MayHaveNone, IsOld, MayBePut, IsOldOrNew, IsOldOrGone, IsOnDisk, IsGone, IsBesideFlushed, IsNamed}
+use Rattle.fw_disk.proofs.Moments.{both, at_same, on_either, untouched, run_untouched, there_lasts, lasts_still, lasts_refused, lasted, left_before, last, weakened, chained, begun, followed, by_call, adds, quiet, run_moments, no_record, was_there, may_have_none, none_there, at_record, at_removed, at_seen_empty, free_when_empty}
 
 -- a file that may have no bytes has none
 empty_found : (found : Option (List ℕ)) → IsUpTo 0 found → found ≡ Some []
@@ -14,6 +14,10 @@ empty_found found up = up.1 ∙ ap Some (none up.0 up.2)
     none : (bytes : List ℕ) → length bytes ≤ 0 → bytes ≡ []
     none [] l = refl
     none (x ∷ bytes) l = absurd (omega arith)
+
+-- a call that gives a record its name, or takes it, leaves the name unsettled
+named_now : (id : ℕ) (b : Bool) → (not (id == id) && b) ≡ false
+named_now id b = λ i. not (eq-eqb id id refl i) && b
 
 some_same : (a b : DiskFile) → Some a ≡ Some b → a ≡ b
 some_same a b e = cc
@@ -55,14 +59,14 @@ module _ (id : ℕ) (contents : List ℕ) (start : Disk) where
   pub beside_refused : (old new : List FolderCall) → IsRefused (Beside id) contents old new → Puts old new
   beside_refused old new r = ⊎_elim (λ e. by_call New may_be_none start old new (made (Beside id) contents false) e (made_beside old false)) (λ e. beside_made old new false e) r
 
-  pub beside_ready : (old new : List FolderCall) → new ≡ flushed (Beside id) true ∷ made (Beside id) contents true ∷ old → IsReady id contents start new
-  beside_ready old new e = subst (IsReady id contents start) (sym e) (λ f s.
+  pub beside_ready : (old new : List FolderCall) → new ≡ flushed (Beside id) true ∷ made (Beside id) contents true ∷ old → IsBesideFlushed id contents start new
+  beside_ready old new e = subst (IsBesideFlushed id contents start) (sym e) (λ f s.
       let t = at_same id _ _ s in
       let u = at_same id _ _ t.1 in
       t.2 ∙ ap (λ file. Some (flush_of file)) (some_same t.0 (written contents) u.1))
 
   -- the file beside is as it was after calls of `run` alone
-  pub still_ready : (old new : List FolderCall) → AreOfRun old new → IsReady id contents start old → IsReady id contents start new
+  pub still_ready : (old new : List FolderCall) → AreOfRun old new → IsBesideFlushed id contents start old → IsBesideFlushed id contents start new
   still_ready old new m ready f s = ready f (go m.since m.of_run (subst (λ h. MayBeThere start h (Beside id) f) m.history s))
     where
       go : (since : List FolderCall) → list_all is_of_run since ≡ true → MayBeThere start (since ++ old) (Beside id) f → MayBeThere start old (Beside id) f
@@ -74,11 +78,11 @@ module _ (id : ℕ) (contents : List ℕ) (start : Disk) where
   -- ---- the name
 
   -- what is found of the file beside is the record's file
-  whole : (h : List FolderCall) → IsReady id contents start h → MayHaveNone start h id → (f : Option DiskFile) (found : Option (List ℕ)) → MayBeThere start h (Beside id) f → Becomes f found
+  whole : (h : List FolderCall) → IsBesideFlushed id contents start h → MayHaveNone start h id → (f : Option DiskFile) (found : Option (List ℕ)) → MayBeThere start h (Beside id) f → Becomes f found
       → MayBeLeft start h (Record id) found ⊎ (MayHaveNone start h id × New id found)
   whole h ready none f found s b = inr (none, inr (refl, subst (λ g. Becomes g found) (ready f s) b))
 
-  at_linked : (h : List FolderCall) (done : Bool) → IsReady id contents start h → IsOldOrNew id contents start h (linked (Beside id) (Record id) done ∷ h)
+  at_linked : (h : List FolderCall) (done : Bool) → IsBesideFlushed id contents start h → IsOldOrNew id contents start h (linked (Beside id) (Record id) done ∷ h)
   at_linked h true ready =
       at_record New may_be_none start h (linked (Beside id) (Record id) true) id (λ f. MayBeThere start h (Record id) None × MayBeThere start h (Beside id) f) (λ other f s. s)
       (λ f found n b. whole h ready (none_there New may_be_none start h id n.0) f found n.1 b)
@@ -87,18 +91,18 @@ module _ (id : ℕ) (contents : List ℕ) (start : Disk) where
       (λ f found n b. ⊎_elim (λ s. was_there New may_be_none start h id f found s b)
       (λ (t : MayBeThere start h (Record id) None × MayBeThere start h (Beside id) f). whole h ready (none_there New may_be_none start h id t.0) f found t.1 b) n)
 
-  pub linked_puts : (old new : List FolderCall) (done : Bool) → new ≡ linked (Beside id) (Record id) done ∷ old → IsReady id contents start old → Puts old new
+  pub linked_puts : (old new : List FolderCall) (done : Bool) → new ≡ linked (Beside id) (Record id) done ∷ old → IsBesideFlushed id contents start old → Puts old new
   linked_puts old new done e ready = by_call New may_be_none start old new (linked (Beside id) (Record id) done) e (at_linked old done ready)
 
   -- the file beside is as it was
-  pub linked_ready : (old new : List FolderCall) (done : Bool) → new ≡ linked (Beside id) (Record id) done ∷ old → IsReady id contents start old → IsReady id contents start new
-  linked_ready old new true e ready = subst (IsReady id contents start) (sym e) (λ f s. ready f s)
-  linked_ready old new false e ready = subst (IsReady id contents start) (sym e) (λ f s. ready f s)
+  pub linked_ready : (old new : List FolderCall) (done : Bool) → new ≡ linked (Beside id) (Record id) done ∷ old → IsBesideFlushed id contents start old → IsBesideFlushed id contents start new
+  linked_ready old new true e ready = subst (IsBesideFlushed id contents start) (sym e) (λ f s. ready f s)
+  linked_ready old new false e ready = subst (IsBesideFlushed id contents start) (sym e) (λ f s. ready f s)
 
-  pub linked_named : (old new : List FolderCall) → new ≡ linked (Beside id) (Record id) true ∷ old → IsReady id contents start old → IsNamed id contents start new
+  pub linked_named : (old new : List FolderCall) → new ≡ linked (Beside id) (Record id) true ∷ old → IsBesideFlushed id contents start old → IsNamed id contents start new
   linked_named old new e ready = subst (IsNamed id contents start) (sym e) (λ f s.
       let t = at_same id _ _ s in
-      (ready f t.1, inl (there_lasts start old (Record id) None t.0)))
+      (ready f t.1, lasts_still start (linked (Beside id) (Record id) true) old (Record id) None (named_now id _) (there_lasts start old (Record id) None t.0)))
 
   -- ---- where there are no second names
 
@@ -125,9 +129,13 @@ module _ (id : ℕ) (contents : List ℕ) (start : Disk) where
       (λ f found n b. ⊎_elim (λ s. was_there New may_be_none start old id f found s b)
       (λ (t : MayBeThere start old (Record id) None × (f ≡ Some (torn 0))). none_found old (none_there New may_be_none start old id t.0) f (torn 0) t.1 empty_found found b) n)
 
+  -- the disk may have no file there yet
+  none_still : (old : List FolderCall) → MayBeThere start old (Record id) None → MayLast start (made_empty old) (Record id) None
+  none_still old s = lasts_still start (made (Record id) [] true) old (Record id) None (named_now id _) (there_lasts start old (Record id) None s)
+
   -- the empty file that took the name is flushed
   may_have_had_none : (old : List FolderCall) (f : Option DiskFile) → MayBeThere start (made_empty old) (Record id) f → MayHaveNone start (made_empty old) id
-  may_have_had_none old f s = may_have_none New may_be_none start (made_empty old) id (inl (there_lasts start old (Record id) None (empty_taken old f s).0))
+  may_have_had_none old f s = may_have_none New may_be_none start (made_empty old) id (none_still old (empty_taken old f s).0)
 
   at_taken_flushed : (old : List FolderCall) (done : Bool) → IsOldOrNew id contents start (made_empty old) (flushed (Record id) done ∷ made_empty old)
   at_taken_flushed old true =
@@ -157,13 +165,13 @@ module _ (id : ℕ) (contents : List ℕ) (start : Disk) where
       (empty_taken old (Some t.0) t.1).0
 
   taken_free : (old : List FolderCall) (f : Option DiskFile) → MayBeThere start (taken old) (Record id) f → MayLast start (taken old) (Record id) None
-  taken_free old f s = inl (inl (there_lasts start old (Record id) None (taken_from old f s)))
+  taken_free old f s = lasts_still start (flushed (Record id) true) (made_empty old) (Record id) None (named_now id _) (none_still old (taken_from old f s))
 
   -- what is beside is what was there
-  taken_ready : (old : List FolderCall) → IsReady id contents start old → IsReady id contents start (taken old)
+  taken_ready : (old : List FolderCall) → IsBesideFlushed id contents start old → IsBesideFlushed id contents start (taken old)
   taken_ready old ready f s = ready f s
 
-  at_renamed : (old : List FolderCall) (done : Bool) → IsReady id contents start old → IsOldOrNew id contents start (taken old) (renamed (Beside id) (Record id) done ∷ taken old)
+  at_renamed : (old : List FolderCall) (done : Bool) → IsBesideFlushed id contents start old → IsOldOrNew id contents start (taken old) (renamed (Beside id) (Record id) done ∷ taken old)
   at_renamed old true ready =
       at_record New may_be_none start (taken old) (renamed (Beside id) (Record id) true) id
       (λ f. ((was : Option DiskFile) × MayBeThere start (taken old) (Record id) was) × MayBeThere start (taken old) (Beside id) f) (λ other f s. s)
@@ -175,23 +183,23 @@ module _ (id : ℕ) (contents : List ℕ) (start : Disk) where
       (λ (t : ((was : Option DiskFile) × MayBeThere start (taken old) (Record id) was) × MayBeThere start (taken old) (Beside id) f).
       whole (taken old) (taken_ready old ready) (may_have_none New may_be_none start (taken old) id (taken_free old t.0.0 t.0.1)) f found t.1 b) n)
 
-  pub renamed_puts : (old mid new : List FolderCall) (done : Bool) → mid ≡ taken old → new ≡ renamed (Beside id) (Record id) done ∷ mid → IsReady id contents start old → Puts old new
+  pub renamed_puts : (old mid new : List FolderCall) (done : Bool) → mid ≡ taken old → new ≡ renamed (Beside id) (Record id) done ∷ mid → IsBesideFlushed id contents start old → Puts old new
   renamed_puts old mid new done e r ready =
       adds New may_be_none start old (taken old) new (renamed (Beside id) (Record id) done) (taken_puts old (taken old) true refl) (r ∙ ap (λ h. renamed (Beside id) (Record id) done ∷ h) e) (at_renamed old done ready)
 
-  pub renamed_named : (old mid new : List FolderCall) → mid ≡ taken old → new ≡ renamed (Beside id) (Record id) true ∷ mid → IsReady id contents start old → IsNamed id contents start new
+  pub renamed_named : (old mid new : List FolderCall) → mid ≡ taken old → new ≡ renamed (Beside id) (Record id) true ∷ mid → IsBesideFlushed id contents start old → IsNamed id contents start new
   renamed_named old mid new e r ready = subst (IsNamed id contents start) (sym (r ∙ ap (λ h. renamed (Beside id) (Record id) true ∷ h) e)) (λ f s.
       let t = at_same id _ _ s in
-      (taken_ready old ready f t.1, inl (taken_free old t.0.0 t.0.1)))
+      (taken_ready old ready f t.1, lasts_still start (renamed (Beside id) (Record id) true) (taken old) (Record id) None (named_now id _) (taken_free old t.0.0 t.0.1)))
 
-  pub undone_rename : (old mid new end : List FolderCall) (done : Bool) → mid ≡ taken old → new ≡ renamed (Beside id) (Record id) false ∷ mid → end ≡ removed (Record id) done ∷ new → IsReady id contents start old → Puts old end
+  pub undone_rename : (old mid new end : List FolderCall) (done : Bool) → mid ≡ taken old → new ≡ renamed (Beside id) (Record id) false ∷ mid → end ≡ removed (Record id) done ∷ new → IsBesideFlushed id contents start old → Puts old end
   undone_rename old mid new end done e r u ready =
       let is = r ∙ ap (λ h. renamed (Beside id) (Record id) false ∷ h) e in
       adds New may_be_none start old new end (removed (Record id) done) (renamed_puts old mid new false e r ready) u
       (subst (λ h. IsOldOrNew id contents start h (removed (Record id) done ∷ h)) (sym is)
       (at_removed New may_be_none start (renamed (Beside id) (Record id) false ∷ taken old) id done
       (λ f s. may_have_none New may_be_none start (renamed (Beside id) (Record id) false ∷ taken old) id
-      (inl (⊎_elim (λ t. taken_free old f t) (λ (t : ((was : Option DiskFile) × MayBeThere start (taken old) (Record id) was) × MayBeThere start (taken old) (Beside id) f). taken_free old t.0.0 t.0.1) (at_same id _ _ s))))))
+      (lasts_still start (renamed (Beside id) (Record id) false) (taken old) (Record id) None (named_now id _) (⊎_elim (λ t. taken_free old f t) (λ (t : ((was : Option DiskFile) × MayBeThere start (taken old) (Record id) was) × MayBeThere start (taken old) (Beside id) f). taken_free old t.0.0 t.0.1) (at_same id _ _ s))))))
 
   -- ---- the names are flushed
 
@@ -205,7 +213,7 @@ module _ (id : ℕ) (contents : List ℕ) (start : Disk) where
   undone old mid new done e u named =
       adds New may_be_none start old mid new (removed (Record id) done) (flush_puts old mid false e) u
       (subst (λ h. IsOldOrNew id contents start h (removed (Record id) done ∷ h)) (sym e)
-      (at_removed New may_be_none start (folder_flushed false ∷ old) id done (λ f s. may_have_none New may_be_none start (folder_flushed false ∷ old) id (inl (named f s).1))))
+      (at_removed New may_be_none start (folder_flushed false ∷ old) id done (λ f s. may_have_none New may_be_none start (folder_flushed false ∷ old) id (lasts_refused start old (Record id) None (named f s).1))))
 
   pub still_on_disk : (old new : List FolderCall) (done : Bool) → new ≡ removed (Beside id) done ∷ old → IsOnDisk id contents start old → IsOnDisk id contents start new
   still_on_disk old new done e on = subst (IsOnDisk id contents start) (sym e) (λ found left. on found (left_before start (removed (Beside id) done) old (Record id) found refl left))
@@ -227,6 +235,9 @@ module _ (start : Disk) where
 
   pub keeps : (h : List FolderCall) → Keeps h h
   keeps = begun (λ other found. IsNoRecord found) no_more start
+
+  pub flush_keeps : (old new : List FolderCall) (done : Bool) → new ≡ folder_flushed done ∷ old → Keeps old new
+  flush_keeps old new done e = by_call (λ other found. IsNoRecord found) no_more start old new (folder_flushed done) e (quiet (λ other found. IsNoRecord found) no_more start old (folder_flushed done) (λ other. refl))
 
   pub seen_keeps : (id : ℕ) (old new : List FolderCall) → new ≡ seen_empty (Record id) ∷ old → Keeps old new
   seen_keeps id old new e = by_call (λ other found. IsNoRecord found) no_more start old new (seen_empty (Record id)) e (at_seen_empty (λ other found. IsNoRecord found) no_more start old id)
@@ -260,13 +271,13 @@ module _ (start : Disk) where
   at_gone : (id : ℕ) (old : List FolderCall) (done : Bool) (other : ℕ) (f : Option DiskFile) (found : Option (List ℕ)) → MayBeThere start (removed (Record id) done ∷ old) (Record other) f → Becomes f found
       → MayBeLeft start old (Record other) found ⊎ (((other ≡ id) ⊎ MayHaveNone start old other) × IsNoRecord found)
   at_gone id old true other f found s b =
-      on_either (other == id) (MayGo (MayBeThere start old) (Record id) f) (MayBeThere start old (Record other) f) _ s
+      on_either (other == id) (MayVanish (MayBeThere start old) (Record id) f) (MayBeThere start old (Record other) f) _ s
       (λ e g. inr (inl (eqb-true other id e), inl (subst (λ f. Becomes f found) g.2 b)))
       (λ t. inl (f, there_lasts start old (Record other) f t, b))
   at_gone id old false other f found s b =
-      on_either (other == id) (MayBeThere start old (Record id) f ⊎ MayGo (MayBeThere start old) (Record id) f) (MayBeThere start old (Record other) f) _ s
+      on_either (other == id) (MayBeThere start old (Record id) f ⊎ MayVanish (MayBeThere start old) (Record id) f) (MayBeThere start old (Record other) f) _ s
       (λ e n. ⊎_elim (λ t. inl (f, there_lasts start old (Record other) f (subst (λ i. MayBeThere start old (Record i) f) (sym (eqb-true other id e)) t), b))
-      (λ (g : MayGo (MayBeThere start old) (Record id) f). inr (inl (eqb-true other id e), inl (subst (λ f. Becomes f found) g.2 b))) n)
+      (λ (g : MayVanish (MayBeThere start old) (Record id) f). inr (inl (eqb-true other id e), inl (subst (λ f. Becomes f found) g.2 b))) n)
       (λ t. inl (f, there_lasts start old (Record other) f t, b))
 
   pub removal_moments : (id : ℕ) (old new : List FolderCall) (done : Bool) → new ≡ removed (Record id) done ∷ old → AtEachMoment (IsOldOrGone id start old) old new
@@ -274,7 +285,7 @@ module _ (start : Disk) where
     since = removed (Record id) done ∷ [];
     history = e;
     each = (
-      λ other found left. ⊎_elim (λ l. inl (left.0, l, left.2)) (λ s. at_gone id old done other left.0 found s left.2) left.1,
+      λ other found left. ⊎_elim (λ l. inl (left.0, l, left.2)) (λ s. at_gone id old done other left.0 found s left.2) (lasted start (removed (Record id) done) old (Record other) left.0 left.1),
       λ other found left. inl left,
     );
   }

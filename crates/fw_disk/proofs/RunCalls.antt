@@ -2,7 +2,7 @@
 use Rattle.std.proofs.Common.{◌≡◌, ⊎_elim, ℕ, Bool, true, false, ◌&&◌, List, [], ◌∷◌, ◌++◌, refl, sym, ap, ◌∙◌, append_assoc}
 use Rattle.std.specs.List.{list_all}
 use Rattle.fw_disk.specs.declared.cause.DiskPlace.{DiskPlace}
-use Rattle.fw_disk.specs.FolderCalls.{FolderCall, made, appended, flushed, is_run, is_of_run, AreOfRun, IsRefused}
+use Rattle.fw_disk.specs.FolderCalls.{FolderCall, made, flushed, is_run, is_of_run, AreOfRun, IsRefused}
 
 pub no_calls : (h : List FolderCall) → AreOfRun h h
 no_calls h = record { since = []; history = refl; of_run = refl }

@@ -1,16 +1,15 @@
 -- What the store tells is on the disk, and no file under an id is torn: call by call.
-use Rattle.std.proofs.Common.{◌≡◌, ◌⊎◌, inl, inr, ⊎_elim, ℕ, zero, suc, ◌==◌, ◌||◌, Bool, true, false, cond, if◌then◌else◌, List, [], ◌∷◌, ◌++◌, length, Option, Some, None, option_map, refl, sym, ap, subst, ◌∙◌, eqb-true, eq-eqb, arith}
-use Rattle.std.specs.Option.{ForSome}
+use Rattle.std.proofs.Common.{◌≡◌, ◌⊎◌, inl, inr, ⊎_elim, ℕ, ◌==◌, ◌||◌, Bool, true, false, cond, if◌then◌else◌, List, [], ◌∷◌, ◌++◌, Option, Some, None, IfSome, refl, sym, ap, subst, ◌∙◌, eqb-true, eq-eqb}
 use Rattle.std.specs.Cmp.{nat_cmp_total, unsigned_tied}
-use Rattle.std.specs.FinMap.{get, insert, remove, get-insert, get-remove}
+use Rattle.std.specs.Ordering.{nat_cmp}
+use Rattle.std.specs.FinMap.{get, insert, remove, empty, get-empty, get-insert, get-remove}
 use Rattle.fw_heard.specs.Note.{Note, note_of}
 use Rattle.fw_disk.specs.declared.cause.DiskPlace.TheVariants.{Record}
 use Rattle.fw_disk.specs.Contents.{contents_of}
-use Rattle.fw_disk.specs.FolderCalls.{FolderCall}
-use Rattle.fw_disk.specs.PowerLoss.{Disk, kept, Becomes, MayBeLeft, EachMoment, AtEachMoment}
-use Rattle.fw_disk.specs.Survival.{IsNoRecord, MayHaveNone, IsOldOr, IsOld, MayBePut, IsOldOrNew, IsOldOrGone, IsOnDisk, AreFilesOf, Survive, IsWhole, StayWhole}
+use Rattle.fw_disk.specs.FolderCalls.{FolderCall, folder_flushed}
+use Rattle.fw_disk.specs.PowerLoss.{Disk, MayBeLeft, EachMoment, AtEachMoment}
+use Rattle.fw_disk.specs.Survival.{IsNoRecord, MayHaveNone, IsOldOr, IsOld, MayBePut, IsOldOrNew, IsOldOrGone, IsOnDisk, Survive, IsWhole, StayWhole}
 use Rattle.fw_disk.specs.Told.{Held, told_by, is_doubtful}
-use Rattle.fw_disk.proofs.Moments.{last}
 use Rattle.fw_disk.proofs.ToldLaws.{opened_from, told_gave, told_put, told_removed, given_from, of_map}
 
 -- ---- options, and what is under an id
@@ -62,17 +61,20 @@ still_on_removed gone start before now old id bytes apart on found left =
 -- ---- what the store tells
 
 module _ (first : Option Held) where
-  -- when the folder was opened
-  pub opened_survive : (found : List Note) (calls : List FolderCall) → ((start : Disk) → IsOld start [] calls) → Survive first (note_of (4 ∷ []) [] ∷ found) calls
-  opened_survive found calls old start files held told id bytes is sure =
-      still_on (λ other left. IsNoRecord left) start [] calls (old start) id bytes (on (files held (at_first first told) id bytes is))
-    where
-      at_first : (o : Option Held) → told_by o (note_of (4 ∷ []) [] ∷ found) ≡ Some held → o ≡ Some held
-      at_first None e = absurd (none-some held e)
-      at_first (Some f) e = ap Some (opened_from f found held e).1
+  at_first : (found : List Note) (held : Held) (o : Option Held) → told_by o (note_of (4 ∷ []) [] ∷ found) ≡ Some held → o ≡ Some held
+  at_first found held None e = absurd (none-some held e)
+  at_first found held (Some f) e = ap Some (opened_from f found held e).1
 
-      on : start (Record id) ≡ Some (contents_of bytes) → IsOnDisk id (contents_of bytes) start []
-      on e f left = subst (λ o. Becomes (option_map kept o) f) e (subst (λ g. Becomes g f) left.1 left.2)
+  -- when the folder was opened, and its names flushed
+  pub opened_survive : (found : List Note) (calls : List FolderCall) → ((start : Disk) → IsOld start (folder_flushed true ∷ []) calls) → Survive first (note_of (4 ∷ []) [] ∷ found) calls
+  opened_survive found calls old start files held told id bytes is sure =
+      still_on (λ other left. IsNoRecord left) start (folder_flushed true ∷ []) calls (old start) id bytes (files held (at_first found held first told) id bytes is)
+
+  -- of a folder that held no record
+  pub new_survive : (calls : List FolderCall) → IfSome first (λ held. held ≡ empty) → Survive first (note_of (4 ∷ []) [] ∷ []) calls
+  new_survive calls none start files held told id bytes is sure =
+      let held_none : held ≡ empty = subst (λ o. IfSome o (λ h. h ≡ empty)) (at_first [] held first told) none in
+      absurd (none-some bytes (sym (get-empty nat_cmp id) ∙ ap (λ h. get h id) (sym held_none) ∙ is))
 
   module _ (heard : List Note) (before now : List FolderCall) (so_far : Survive first heard before) where
     -- no more is told, no less is in doubt, and what a loss of power leaves is old, or new where there may have been no record
@@ -146,16 +148,11 @@ moment_of P (call ∷ since) old each (other ∷ later) moment e = let tails : s
 -- at first
 pub whole_at_first : (calls : List FolderCall) → calls ≡ [] → StayWhole calls
 whole_at_first calls none start files later moment e id contents left =
-    let at : MayBeLeft start [] (Record id) (Some contents) = subst (λ h. MayBeLeft start h (Record id) (Some contents)) (nothing_behind later moment (sym e ∙ none)) left in
-    files id contents (opened (start (Record id)) (subst (λ f. Becomes f (Some contents)) at.1 at.2))
+    files id contents (subst (λ h. MayBeLeft start h (Record id) (Some contents)) (nothing_behind later moment (sym e ∙ none)) left)
   where
     nothing_behind : (later moment : List FolderCall) → later ++ moment ≡ [] → moment ≡ []
     nothing_behind [] moment e = e
     nothing_behind (call ∷ later) moment e = absurd (cc)
-
-    opened : (o : Option (List ℕ)) → Becomes (option_map kept o) (Some contents) → o ≡ Some contents
-    opened None e = absurd (none-some contents (sym e))
-    opened (Some b) e = sym e
 
 -- and in each call
 module _ (before now : List FolderCall) (so_far : StayWhole before) where

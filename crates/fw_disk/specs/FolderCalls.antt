@@ -1,5 +1,5 @@
 -- The calls that change a folder, each with its answer.
-use Rattle.std.specs.Prelude.{◌≡◌, ℕ, zero, suc, ◌==◌, Bool, true, false, ◌&&◌, ◌⊎◌, List, ◌∷◌, ◌++◌, map, slice_index}
+use Rattle.std.specs.Prelude.{◌≡◌, ℕ, zero, suc, ◌==◌, Bool, true, false, not, ◌&&◌, ◌||◌, ◌⊎◌, List, ◌∷◌, ◌++◌, map, slice_index}
 use Rattle.std.specs.List.{list_all}
 use Rattle.fw_heard.specs.Note.{Note, became_of}
 use Rattle.fw_disk.specs.declared.cause.DiskPlace.{DiskPlace}
@@ -28,26 +28,26 @@ pub data FolderCall : Type 0 where
 -- ---- how they are noted
 
 -- a place by two numbers
-abbrev pub kind_of : DiskPlace → ℕ
-kind_of (Record id) = 0
-kind_of (Beside id) = 1
-kind_of Run = 2
-kind_of RunBeside = 3
-kind_of Folder = 4
+abbrev pub place_kind : DiskPlace → ℕ
+place_kind (Record id) = 0
+place_kind (Beside id) = 1
+place_kind Run = 2
+place_kind RunBeside = 3
+place_kind Folder = 4
 
-abbrev pub number_of : DiskPlace → ℕ
-number_of (Record id) = id
-number_of (Beside id) = id
-number_of Run = 0
-number_of RunBeside = 0
-number_of Folder = 0
+abbrev pub place_number : DiskPlace → ℕ
+place_number (Record id) = id
+place_number (Beside id) = id
+place_number Run = 0
+place_number RunBeside = 0
+place_number Folder = 0
 
-abbrev pub place_of : ℕ → ℕ → DiskPlace
-place_of zero id = Record id
-place_of (suc zero) id = Beside id
-place_of (suc (suc zero)) id = Run
-place_of (suc (suc (suc zero))) id = RunBeside
-place_of (suc (suc (suc (suc more)))) id = Folder
+abbrev pub coded_place : ℕ → ℕ → DiskPlace
+coded_place zero id = Record id
+coded_place (suc zero) id = Beside id
+coded_place (suc (suc zero)) id = Run
+coded_place (suc (suc (suc zero))) id = RunBeside
+coded_place (suc (suc (suc (suc more)))) id = Folder
 
 -- the call of this sort, at a place and perhaps a second
 abbrev pub sort_of : ℕ → DiskPlace → DiskPlace → Bool → List ℕ → FolderCall
@@ -61,20 +61,20 @@ sort_of (suc (suc (suc (suc (suc (suc zero)))))) place to done bytes = folder_fl
 sort_of (suc (suc (suc (suc (suc (suc (suc more))))))) place to done bytes = seen_empty place
 
 -- the call of a note: its sort, its places, and whether it was done
-abbrev pub call_of : Note → FolderCall
-call_of note =
-    sort_of (became_of note) (place_of (slice_index note.0 1) (slice_index note.0 2)) (place_of (slice_index note.0 3) (slice_index note.0 4))
+abbrev pub noted_call : Note → FolderCall
+noted_call note =
+    sort_of (became_of note) (coded_place (slice_index note.0 1) (slice_index note.0 2)) (coded_place (slice_index note.0 3) (slice_index note.0 4))
     (slice_index note.0 5 == 1) note.1
 
 -- the calls that were noted, the newest first
 abbrev pub calls_of : CallNotes → List FolderCall
-calls_of calls = map call_of calls.heard.notes
+calls_of calls = map noted_call calls.heard.notes
 
 -- ---- which calls were made
 
 -- whether two places are one
 abbrev pub is_place : DiskPlace → DiskPlace → Bool
-is_place a b = (kind_of a == kind_of b) && (number_of a == number_of b)
+is_place a b = (place_kind a == place_kind b) && (place_number a == place_number b)
 
 -- the file `run`, or the one beside it
 abbrev pub is_run : DiskPlace → Bool
@@ -100,6 +100,27 @@ pub record AreOfRun (old new : List FolderCall) : Type 0 where
   pub since : List FolderCall
   pub history : new ≡ since ++ old
   pub of_run : list_all is_of_run since ≡ true
+
+-- whether a call leaves the file `run` alone
+abbrev pub is_beside_run : FolderCall → Bool
+is_beside_run (made place bytes done) = not (is_place Run place)
+is_beside_run (appended place bytes done) = not (is_place Run place)
+is_beside_run (flushed place done) = not (is_place Run place)
+is_beside_run (linked from to done) = not (is_place Run to)
+is_beside_run (renamed from to done) = not (is_place Run from || is_place Run to)
+is_beside_run (removed place done) = not (is_place Run place)
+is_beside_run (folder_flushed done) = true
+is_beside_run (seen_empty place) = not (is_place Run place)
+
+-- the calls since an earlier history, all of which leave that file alone
+pub record AreBesideRun (old new : List FolderCall) : Type 0 where
+  pub since : List FolderCall
+  pub history : new ≡ since ++ old
+  pub beside : list_all is_beside_run since ≡ true
+
+-- these bytes were written behind those of a file, and flushed
+abbrev pub IsLonger : DiskPlace → List ℕ → List FolderCall → List FolderCall → Type 0
+IsLonger place bytes old new = new ≡ flushed place true ∷ appended place bytes true ∷ old
 
 -- a file that was to be made whole and flushed was refused, or its flush was
 abbrev pub IsRefused : DiskPlace → List ℕ → List FolderCall → List FolderCall → Type 0

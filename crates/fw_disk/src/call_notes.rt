@@ -1,6 +1,6 @@
 //! How each call that changes the folder is noted.
 ghost use Rattle.std.specs.Prelude.{◌≡◌, [], ◌∷◌};
-ghost use Rattle.fw_disk.specs.FolderCalls.{calls_of, place_of, made, appended, flushed, linked, renamed, removed, folder_flushed, seen_empty};
+ghost use Rattle.fw_disk.specs.FolderCalls.{calls_of, coded_place, made, appended, flushed, linked, renamed, removed, folder_flushed, seen_empty};
 
 use crate::cause::DiskPlace;
 use fw_heard::Heard;
@@ -30,7 +30,7 @@ pub(crate) struct CallNotes {
 
 // The two numbers of a place.
 fn coded(place: DiskPlace) -> (u64, u64)
-    ensures { place_of result.0 result.1 ≡ place }
+    ensures { coded_place result.0 result.1 ≡ place }
 {
     match place {
         DiskPlace::Record(id) => (0, id),

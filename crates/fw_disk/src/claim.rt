@@ -1,10 +1,10 @@
 //! The folder as one run has it.
-ghost use Rattle.std.specs.Prelude.{◌≡◌, ℕ, [], ◌∷◌, None, IfOk, OnOk, OnErr};
+ghost use Rattle.std.specs.Prelude.{◌≡◌, ℕ, true, [], ◌∷◌, None, IfOk, OnOk, OnErr, string_bytes};
 ghost use Rattle.sha2.specs.Sha256.{sha256};
-ghost use Rattle.fw_disk.specs.FolderCalls.{calls_of, AreOfRun};
+ghost use Rattle.fw_disk.specs.FolderCalls.{calls_of, folder_flushed, AreOfRun};
 ghost use Rattle.fw_disk.specs.PowerLoss.{Disk, AtEachMoment};
-ghost use Rattle.fw_disk.specs.RunLines.{digests_of, digests_under, are_any, MayStand};
-ghost use Rattle.fw_disk.specs.Survival.{IsOld, IsOldOrNew, IsOldOrGone, IsOnDisk, IsGone};
+ghost use Rattle.fw_disk.specs.RunLines.{digest_line, digests_of, digests_under, are_any, MayStand};
+ghost use Rattle.fw_disk.specs.Survival.{IsOld, IsOldOrNew, IsOldOrGone, IsOnDisk, IsGone, EndsIn, IsLineWritten, IsRunFileKnown, IsWithLine};
 ghost use Rattle.fw_disk.specs.Told.{HasDigestsNoted, IsClaimFor};
 
 use crate::cause::{DiskPlace, DiskRefusal, Trouble};
@@ -64,7 +64,8 @@ fn claim_empty<R: Files<File = File>>(folder: &mut Folder<'_, R>) -> Result<Clai
     })
 }
 
-/// A claim on a folder as an earlier run left it. Each record that stands there is noted, with its digest.
+/// A claim on a folder as an earlier run left it, which may have been killed: its names are flushed first. Each record that stands
+/// there is noted, with its digest.
 pub(crate) fn claim_left<R: Files<File = File>>(
     folder: &mut Folder<'_, R>,
     heard: &mut Heard,
@@ -72,8 +73,10 @@ pub(crate) fn claim_left<R: Files<File = File>>(
     requires { heard.old.notes ≡ [] }
     ensures noted { IfOk result (λ claim. HasDigestsNoted heard.new.notes claim.lines.told) }
     ensures any_moment { (start : Disk) → AtEachMoment (IsOld start (calls_of folder.old.calls)) (calls_of folder.old.calls) (calls_of folder.new.calls) }
+    ensures flushed { IfOk result (λ claim. (start : Disk) → IsOld start (folder_flushed true ∷ calls_of folder.old.calls) (calls_of folder.new.calls)) }
 {
     let locked = folder.lock()?;
+    folder.flush()?;
     let text = run_text(folder)?;
     let told = lines_in(folder.alloc(), &text)?;
     let lines = found(folder, &told, heard)?;
@@ -263,6 +266,9 @@ impl Claim {
         contents: &[u8],
     ) -> Result<(), DiskRefusal>
         ensures lines { self.new.lines ≡ self.old.lines }
+        // Where the id has a line already, the new record is left with its own alone.
+        ensures line { has_line ≡ true → (start : Disk) → IsRunFileKnown start (calls_of folder.old.calls)
+            → AtEachMoment (IsWithLine id contents.now (digest_line id digest.now) start (calls_of folder.old.calls)) (calls_of folder.old.calls) (calls_of folder.new.calls) }
         ensures any_moment { (start : Disk) → AtEachMoment (IsOldOrNew id contents.now start (calls_of folder.old.calls)) (calls_of folder.old.calls) (calls_of folder.new.calls) }
         ensures on_disk { OnOk result ((start : Disk) → IsOnDisk id contents.now start (calls_of folder.new.calls)) }
     {
@@ -290,6 +296,7 @@ impl Claim {
     ) -> Result<(), DiskRefusal>
         ensures lines { self.new.lines ≡ self.old.lines }
         ensures of_run { AreOfRun (calls_of folder.old.calls) (calls_of folder.new.calls) }
+        ensures told { OnOk result (has_line ≡ true → IsLineWritten id digest.now (calls_of folder.old.calls) (calls_of folder.new.calls)) }
     {
         let text = self.text_of(folder.alloc(), id, digest)?;
         self.is_cut = true;
@@ -299,7 +306,9 @@ impl Claim {
     }
 
     // A line, on a new one where the last may be cut short.
-    fn text_of(&self, alloc: Global, id: u64, digest: &Digest) -> Result<String, AllocError> {
+    fn text_of(&self, alloc: Global, id: u64, digest: &Digest) -> Result<String, AllocError>
+        ensures { IfOk result (λ text. EndsIn (digest_line id digest.now) (string_bytes text)) }
+    {
         let mut text = String::new(alloc);
         if self.is_cut {
             text.push('\n')?;

@@ -181,6 +181,13 @@ impl<R: Files, S: Start> DiskStore<'_, R, S> {
         }
     }
 
+    /// What a loss of power leaves of the folder now, and what one would have left at each moment since the store was made, by the
+    /// clauses of this call, which does nothing.
+    pub fn survives(&self)
+        ensures survive { Survive S.held self.now.heard.notes (calls_of self.now.folder.calls) }
+        ensures whole { StayWhole (calls_of self.now.folder.calls) }
+    {}
+
     // The answer of a call; a failure is counted, and noted.
     fn answer(
         &mut self,

@@ -1,10 +1,10 @@
 //! The folder of a store, by calls of the system.
 ghost use Rattle.std.specs.Prelude.{◌≡◌, ℕ, List, [], ◌∷◌, true, is_ok, IfOk, IfSome, OnOk, OnErr, string_bytes};
 ghost use Rattle.std.specs.Io.KnownBytes.{Appends};
-ghost use Rattle.fw_disk.specs.FolderCalls.{calls_of, made, flushed, linked, renamed, removed, folder_flushed, is_run, IsRefused, AreOfRun};
+ghost use Rattle.fw_disk.specs.FolderCalls.{calls_of, made, flushed, linked, renamed, removed, folder_flushed, is_run, IsRefused, IsLonger, AreOfRun, AreBesideRun};
 ghost use Rattle.fw_disk.specs.Paths.{path_of};
 ghost use Rattle.fw_disk.specs.PowerLoss.{Disk, AtEachMoment};
-ghost use Rattle.fw_disk.specs.Survival.{IsOld, IsOldOrNew, IsReady, IsNamed};
+ghost use Rattle.fw_disk.specs.Survival.{IsOld, IsOldOrNew, IsBesideFlushed, IsNamed};
 
 use crate::call_notes::CallNotes;
 use crate::cause::{DiskPlace, DiskRefusal, Trouble};
@@ -113,7 +113,8 @@ impl<'a, R: Files> Folder<'a, R> {
         bytes: &[u8],
         flushes: bool,
     ) -> Result<(), DiskRefusal>
-        ensures { is_run place ≡ true → AreOfRun (calls_of self.old.calls) (calls_of self.new.calls) }
+        ensures of_run { is_run place ≡ true → AreOfRun (calls_of self.old.calls) (calls_of self.new.calls) }
+        ensures longer { OnOk result (flushes ≡ true → IsLonger place bytes.now (calls_of self.old.calls) (calls_of self.new.calls)) }
     {
         let longer = self.longer_file(place, bytes);
         self.calls.appended(place, bytes, longer.is_ok());
@@ -144,8 +145,9 @@ impl<'a, R: Files> Folder<'a, R> {
     /// Gives the file beside the name of the record, which is not there. Where the file system has no second names, the name is taken
     /// by an empty file first, and then the file is renamed.
     pub(crate) fn give_name(&mut self, id: u64) -> Result<(), DiskRefusal>
-        ensures any_moment { (start : Disk) (contents : List ℕ) → IsReady id contents start (calls_of self.old.calls) → AtEachMoment (IsOldOrNew id contents start (calls_of self.old.calls)) (calls_of self.old.calls) (calls_of self.new.calls) }
-        ensures named { OnOk result ((start : Disk) (contents : List ℕ) → IsReady id contents start (calls_of self.old.calls) → IsNamed id contents start (calls_of self.new.calls)) }
+        ensures any_moment { (start : Disk) (contents : List ℕ) → IsBesideFlushed id contents start (calls_of self.old.calls) → AtEachMoment (IsOldOrNew id contents start (calls_of self.old.calls)) (calls_of self.old.calls) (calls_of self.new.calls) }
+        ensures named { OnOk result ((start : Disk) (contents : List ℕ) → IsBesideFlushed id contents start (calls_of self.old.calls) → IsNamed id contents start (calls_of self.new.calls)) }
+        ensures beside { AreBesideRun (calls_of self.old.calls) (calls_of self.new.calls) }
     {
         match self.link(DiskPlace::Beside(id), DiskPlace::Record(id)) {
             Ok(()) => Ok(()),
@@ -161,8 +163,9 @@ impl<'a, R: Files> Folder<'a, R> {
 
     // Takes the name of a record by an empty file, and gives it to the file beside.
     fn take_name(&mut self, id: u64) -> Result<(), DiskRefusal>
-        ensures any_moment { (start : Disk) (contents : List ℕ) → IsReady id contents start (calls_of self.old.calls) → AtEachMoment (IsOldOrNew id contents start (calls_of self.old.calls)) (calls_of self.old.calls) (calls_of self.new.calls) }
-        ensures named { OnOk result ((start : Disk) (contents : List ℕ) → IsReady id contents start (calls_of self.old.calls) → IsNamed id contents start (calls_of self.new.calls)) }
+        ensures any_moment { (start : Disk) (contents : List ℕ) → IsBesideFlushed id contents start (calls_of self.old.calls) → AtEachMoment (IsOldOrNew id contents start (calls_of self.old.calls)) (calls_of self.old.calls) (calls_of self.new.calls) }
+        ensures named { OnOk result ((start : Disk) (contents : List ℕ) → IsBesideFlushed id contents start (calls_of self.old.calls) → IsNamed id contents start (calls_of self.new.calls)) }
+        ensures beside { AreBesideRun (calls_of self.old.calls) (calls_of self.new.calls) }
     {
         self.make(DiskPlace::Record(id), &[])?;
         match self.rename(DiskPlace::Beside(id), DiskPlace::Record(id)) {

@@ -1,10 +1,9 @@
-use Rattle.std.proofs.Common.{◌≡◌, Some, IfSome, refl, sym, ap, ◌∙◌, subst}
+use Rattle.std.proofs.Common.{◌≡◌, true, ◌∷◌, Some, IfSome, refl, sym, ap, ◌∙◌, subst}
 use Rattle.std.specs.Option.{ForSome}
-use Rattle.fw_disk.specs.FolderCalls.{calls_of}
+use Rattle.fw_disk.specs.FolderCalls.{calls_of, folder_flushed}
 use Rattle.fw_disk.specs.Survival.{IsOld, Survive}
 use Rattle.fw_disk.specs.Told.{told_by, digests_in, HasDigestsOf}
 use Rattle.fw_disk.specs.declared.claim.Wanted.TheVariants.{AsLeft}
-use Rattle.fw_disk.proofs.Moments.{last}
 use Rattle.fw_disk.proofs.SurvivalLaws.{opened_survive, whole_at_first, old_whole}
 use Rattle.fw_disk.proofs.ToldLaws.{opened_kept, opened_tells}
 use Rattle.fw_disk.proofs.disk_store.DiskStore.reopen.Goals as goal
@@ -17,7 +16,7 @@ left-requires g c =
       has_digests = subst (λ notes. ForSome (told_by g.S.Start.held notes) (HasDigestsOf (Some c.in-Ok.claim) AsLeft)) (sym c.note.ensures)
           (opened_kept g.S.Start.held c.claim_left.new.heard.notes (Some c.in-Ok.claim) AsLeft refl (λ q. c.in-Ok.ensures.noted q));
       survive = subst (λ notes. Survive g.S.Start.held notes calls) (sym c.note.ensures)
-          (opened_survive g.S.Start.held c.claim_left.new.heard.notes calls (λ start. subst (λ old. IsOld start old calls) c.new-folder.ensures (last (IsOld start old) old calls (c.claim_left.ensures.any_moment start))));
+          (opened_survive g.S.Start.held c.claim_left.new.heard.notes calls (λ start. subst (λ old. IsOld start (folder_flushed true ∷ old) calls) c.new-folder.ensures (c.in-Ok.ensures.flushed start)));
       whole = old_whole old calls (whole_at_first old c.new-folder.ensures) c.claim_left.ensures.any_moment;
     }
 

@@ -1,4 +1,4 @@
-use Rattle.std.proofs.Common.{Some, None, subst}
+use Rattle.std.proofs.Common.{subst}
 use Rattle.fw_disk.specs.FolderCalls.{calls_of}
 use Rattle.fw_disk.specs.Survival.{IsNoRecord, IsOld}
 use Rattle.fw_disk.specs.Told.{HasDigestsOf}

@@ -1,6 +1,8 @@
-use Rattle.std.proofs.Common.{true, false}
+use Rattle.std.proofs.Common.{true, false, refl}
 use Rattle.std.proofs.lemmas.Result.{on_ok_weaker}
-use Rattle.fw_disk.specs.FolderCalls.{calls_of}
+use Rattle.fw_disk.specs.FolderCalls.{calls_of, linked}
+use Rattle.fw_disk.specs.declared.cause.DiskPlace.TheVariants.{Record, Beside}
+use Rattle.fw_disk.proofs.LineMoments.{one_beside, then_beside}
 use Rattle.fw_disk.proofs.PutMoments.{then_puts, linked_puts, linked_ready, linked_named}
 use Rattle.fw_disk.proofs.folder.Folder.give_name.Goals as goal
 
@@ -29,3 +31,17 @@ returns-then-is_of_second_names-clause-named g c =
 pub returns-else-is_of_second_names-clause-any_moment : goal.returns-else-is_of_second_names-clause-any_moment
 returns-else-is_of_second_names-clause-any_moment g c start contents ready =
     linked_puts c.args.id contents start (calls_of c.args.self.now.calls) (calls_of c.link.new.self.calls) false c.in-Err.ensures ready
+
+pub returns-in-Ok-clause-beside : goal.returns-in-Ok-clause-beside
+returns-in-Ok-clause-beside g c =
+    one_beside (calls_of c.args.self.now.calls) (calls_of c.link.new.self.calls) (linked (Beside c.args.id) (Record c.args.id) true) refl c.in-Ok.ensures
+
+pub returns-then-is_of_second_names-clause-beside : goal.returns-then-is_of_second_names-clause-beside
+returns-then-is_of_second_names-clause-beside g c =
+    let old = calls_of c.args.self.now.calls in
+    let tried = calls_of c.link.new.self.calls in
+    then_beside old tried (calls_of c.take_name.new.self.calls) (one_beside old tried (linked (Beside c.args.id) (Record c.args.id) false) refl c.in-Err.ensures) c.take_name.ensures.beside
+
+pub returns-else-is_of_second_names-clause-beside : goal.returns-else-is_of_second_names-clause-beside
+returns-else-is_of_second_names-clause-beside g c =
+    one_beside (calls_of c.args.self.now.calls) (calls_of c.link.new.self.calls) (linked (Beside c.args.id) (Record c.args.id) false) refl c.in-Err.ensures

@@ -125,7 +125,7 @@ goes-on flow step idle source came told story After of goes = (story, subst Afte
 left-of : (flow : Dataflow) (step : Step) (source : ℕ) (came : List (Vec Rec Global)) (told : List Stepped) (story : Story) (After : Story → Type 0)
     → IsStoryOf source came told story → IsLeftAt flow step story After → (next : Story) × After next × IsStoryOf source came told next
 left-of flow Collect source came told story After of left = goes-on flow Collect left.0 source came told story After of left.1
-left-of flow step source came told story After of left = (story, left, of)
+left-of flow step source came told story After of left = (story, left.1, of)
 
 -- a step reads what was put, over a store that tells its records
 trusted : (flow : Dataflow) (story : Story) (step : Step) (after : Option Records) → (after ≡ None → ⊥) → Trusts (system_now flow story) story.now.state step after
@@ -184,7 +184,7 @@ first-kept flow arrivals (Ok (Did shown)) Before After source came told refused 
 first-kept flow arrivals (Ok Idle) Before After source came told refused refuses goes says stays kept live =
     let k = kept (live-before refused (Ok Idle) stays (λ e. cc)) in (k.0, (goes.ok k.0 k.1).0, k.2)
 first-kept flow arrivals (Err fault.StoreFault) Before After source came told refused refuses goes says stays kept live =
-    let k = kept (live-before refused (Err fault.StoreFault) stays (λ e. cc)) in (k.0, goes.faulted k.0 k.1 refl, k.2)
+    let k = kept (live-before refused (Err fault.StoreFault) stays (λ e. cc)) in (k.0, (goes.faulted k.0 k.1 refl).1, k.2)
 first-kept flow arrivals (Err (fault.Damaged id)) Before After source came told refused refuses goes says stays kept live =
     absurd (goes.unharmed id refl)
 first-kept flow arrivals (Err fault.NoMemory) Before After source came told refused refuses goes says stays kept live =

@@ -67,13 +67,14 @@ joined old told lines last between after new t l e =
 
 -- steps that ended so were written and counted
 turned-so : (rests : Bool) (flow : Dataflow) (story : Story) (asked : Asked) (ending : Ending) (counts between after : LineCounts)
-    (start turn : TurnCounts) (old told printed new : List ℕ) (At : Story → Type 0) → start ≡ no-turn
+    (start turn : TurnCounts) (old told printed new : List ℕ) (At : Story → Type 0) (After : Story → List ℕ → Type 0)
+    → ((s : Story) (shown : List ℕ) → printed ≡ told ++ shown → At s → After s shown) → start ≡ no-turn
     → told ≡ old ++ change_text flow (came_in_story flow story) asked.change
     → GoesOnPrinting flow (EndsBoth flow (after_change asked.change story) asked.item (rest_item rests) ending)
     (record { bytes = told; counts = start }) (record { bytes = printed; counts = turn }) At
     → between ≡ with-turn turn counts → new ≡ printed ++ ending_text ending turn.done → after ≡ counts_ended ending between
-    → HasTurned rests flow story asked counts after old new At
-turned-so rests flow story asked ending counts between after start turn old told printed new At s t goes b n a =
+    → HasTurned rests flow story asked counts after old new After
+turned-so rests flow story asked ending counts between after start turn old told printed new At After keeps s t goes b n a =
     let c = stepped-counts goes.outcomes turn counts (goes.counted ∙ ap (turn_counts goes.outcomes) s) in
     record {
       turn = record { told = change_text flow (came_in_story flow story) asked.change; outcomes = goes.outcomes; ending = ending };
@@ -82,45 +83,33 @@ turned-so rests flow story asked ending counts between after start turn old told
       written = joined old (change_text flow (came_in_story flow story) asked.change) (outcomes_text flow goes.outcomes)
           (ending_text ending (saturated (done_count goes.outcomes))) told printed new t goes.printed (n ∙ ap (λ k. printed ++ ending_text ending k) c.0);
       counted = a ∙ ap (counts_ended ending) (b ∙ c.1);
-      at = goes.at;
+      at = keeps goes.next (outcomes_text flow goes.outcomes) goes.printed goes.at;
     }
 
 pub has-turned : (rests : Bool) (flow : Dataflow) (story : Story) (asked : Asked) (taken : Result (Unit {0}) EngineFault)
     (counts between after : LineCounts) (start turn : TurnCounts) (old told printed new : List ℕ) (At : Story → Type 0)
+    (After : Story → List ℕ → Type 0) → ((s : Story) (shown : List ℕ) → printed ≡ told ++ shown → At s → After s shown)
     → start ≡ no-turn → told ≡ old ++ change_text flow (came_in_story flow story) asked.change
     → EndsSo (λ ending. GoesOnPrinting flow (EndsBoth flow (after_change asked.change story) asked.item (rest_item rests) ending)
     (record { bytes = told; counts = start }) (record { bytes = printed; counts = turn }) At) taken
     → between ≡ with-turn turn counts → EndsSo (λ ending. new ≡ printed ++ ending_text ending turn.done) taken
     → EndsSo (λ ending. after ≡ counts_ended ending between) taken → (IsErrOf taken fault.NoMemory → false ≡ true)
-    → HasTurned rests flow story asked counts after old new At
-has-turned rests flow story asked (Ok x) counts between after start turn old told printed new At s t goes b n a m =
-    turned-so rests flow story asked all counts between after start turn old told printed new At s t goes b n a
-has-turned rests flow story asked (Err fault.StoreFault) counts between after start turn old told printed new At s t goes b n a m =
-    turned-so rests flow story asked failed counts between after start turn old told printed new At s t goes b n a
-has-turned rests flow story asked (Err (fault.Damaged id)) counts between after start turn old told printed new At s t goes b n a m =
-    turned-so rests flow story asked (spoiled id) counts between after start turn old told printed new At s t goes b n a
-has-turned rests flow story asked (Err fault.NoMemory) counts between after start turn old told printed new At s t goes b n a m =
+    → HasTurned rests flow story asked counts after old new After
+has-turned rests flow story asked (Ok x) counts between after start turn old told printed new At After keeps s t goes b n a m =
+    turned-so rests flow story asked all counts between after start turn old told printed new At After keeps s t goes b n a
+has-turned rests flow story asked (Err fault.StoreFault) counts between after start turn old told printed new At After keeps s t goes b n a m =
+    turned-so rests flow story asked failed counts between after start turn old told printed new At After keeps s t goes b n a
+has-turned rests flow story asked (Err (fault.Damaged id)) counts between after start turn old told printed new At After keeps s t goes b n a m =
+    turned-so rests flow story asked (spoiled id) counts between after start turn old told printed new At After keeps s t goes b n a
+has-turned rests flow story asked (Err fault.NoMemory) counts between after start turn old told printed new At After keeps s t goes b n a m =
     absurd (false≢true (m refl))
-
--- and what is true of the next story is more
-pub turned-at : (rests : Bool) (flow : Dataflow) (story : Story) (asked : Asked) (before after : LineCounts) (old new : List ℕ)
-    (At After : Story → Type 0) → HasTurned rests flow story asked before after old new At → ((s : Story) → At s → After s)
-    → HasTurned rests flow story asked before after old new After
-turned-at rests flow story asked before after old new At After has more = record {
-  turn = has.turn;
-  next = has.next;
-  turns = has.turns;
-  written = has.written;
-  counted = has.counted;
-  at = more has.next has.at;
-}
 
 -- ---- an answer
 
-pub answer-refused : (rests : Bool) (flow : Dataflow) (story : Story) (h : Result Asked LineRule) (rule : LineRule) (before after : LineCounts)
-    (old new : List ℕ) (At : Story → Type 0) → At story → Err rule ≡ allowed story.now.opened (came_in_story flow story) h
-    → after ≡ with_line before → new ≡ old ++ refused_line rule after.lines → HasAnswered rests flow story h before after old new At
-answer-refused rests flow story h rule before after old new At at e counted written = record {
+pub answer-refused : (rests : Bool) (flow : Dataflow) (story : Story) (kept : List ℕ) (h : Result Asked LineRule) (rule : LineRule) (before after : LineCounts)
+    (old new : List ℕ) (At : Story → List ℕ → Type 0) → At story kept → Err rule ≡ allowed story.now.opened (came_in_story flow story) h
+    → after ≡ with_line before → new ≡ old ++ refused_line rule after.lines → HasAnswered rests flow story kept h before after old new At
+answer-refused rests flow story kept h rule before after old new At at e counted written = record {
   answer = refused rule;
   next = story;
   answers = subst (λ a. IsAnswerTo rests flow story a (refused rule) story) e (refl, refl);
@@ -129,10 +118,10 @@ answer-refused rests flow story h rule before after old new At at e counted writ
   at = at;
 }
 
-pub answer-turned : (rests : Bool) (flow : Dataflow) (story : Story) (h : Result Asked LineRule) (asked : Asked) (before between after : LineCounts)
-    (old new : List ℕ) (After : Story → Type 0) → Ok asked ≡ allowed story.now.opened (came_in_story flow story) h → between ≡ with_line before
-    → HasTurned rests flow story asked between after old new After → HasAnswered rests flow story h before after old new After
-answer-turned rests flow story h asked before between after old new After e counted has = record {
+pub answer-turned : (rests : Bool) (flow : Dataflow) (story : Story) (kept : List ℕ) (h : Result Asked LineRule) (asked : Asked) (before between after : LineCounts)
+    (old new : List ℕ) (After : Story → List ℕ → Type 0) → Ok asked ≡ allowed story.now.opened (came_in_story flow story) h → between ≡ with_line before
+    → HasTurned rests flow story asked between after old new After → HasAnswered rests flow story kept h before after old new After
+answer-turned rests flow story kept h asked before between after old new After e counted has = record {
   answer = turned has.turn;
   next = has.next;
   answers = subst (λ a. IsAnswerTo rests flow story a (turned has.turn) has.next) e (has.turn, refl, has.turns);

@@ -24,7 +24,7 @@ use Rattle.fw_live.specs.declared.fault.ServeFault.TheVariants as serve
 use Rattle.fw_live.specs.Answers.{Answer}
 use Rattle.fw_live.specs.Asked.{LineIn}
 use Rattle.fw_live.specs.Call.{AnswersAll, AnswersPart, EndsBefore, EndsUnbegun, EndsWhole, FlowAnswers, HasFlowSo, IsAnswersText, IsLineCutAt, IsLiveText, IsPutAt, KeepsFlow, LiveAnswers, StaysQuiet, status_by, stopped_status, unread_status}
-use Rattle.fw_live.specs.Life.{answers_text, counts_behind, counts_line, no_counts}
+use Rattle.fw_live.specs.Life.{answers_text, counts_behind, counts_line, kept_behind, no_counts}
 use Rattle.fw_live.specs.Serving.{AreLinesReliedOn, HasAnsweredAll, HasServed, IsPutBefore, Serves, ServesPart, LivePoint}
 use Rattle.fw_live.specs.Words.{LiveCommand}
 use Rattle.fw_live.proofs.ServingLaws.{cut-more}
@@ -88,8 +88,8 @@ flow-quiet view rests flow given ended status at before = record {
 
 -- the text of what was printed of lines
 whole-text : (rests : Bool) (flow : Dataflow) (before after : LivePoint) (lines : List LineIn) (status : Status) (IsPut : List ℕ → Type 0)
-    → before.counts ≡ no_counts → ((s : Story) → after.At s → IsStory flow s)
-    → (so : HasServed rests flow before after (opening flow) lines IsPut) → status ≡ status_by after.counts
+    → before.counts ≡ no_counts → ((s : Story) (kept : List ℕ) → after.At s kept → IsStory flow s)
+    → (so : HasServed rests flow before after (opening flow) [] lines IsPut) → status ≡ status_by after.counts
     → IsLiveText rests flow lines status (answers_text flow before.counts so.answers ++ counts_line after.counts)
 whole-text rests flow before after lines status IsPut none there so is =
     let counted = so.counted ∙ ap (counts_behind so.answers) none in
@@ -97,7 +97,7 @@ whole-text rests flow before after lines status IsPut none there so is =
       answers = so.answers;
       last = so.last;
       are = so.are;
-      of_story = there so.last so.at;
+      of_story = there so.last (kept_behind flow [] so.answers) so.at;
       text = ap (λ counts. answers_text flow counts so.answers ++ counts_line after.counts) none
           ∙ ap (λ counts. answers_text flow no_counts so.answers ++ counts_line counts) counted;
       told = is ∙ ap status_by counted;
@@ -123,7 +123,7 @@ same-lines lines given gives e = e ∙ ap (λ all. option_map (λ earlier. earli
 -- all lines were answered, and then the last line was written, or cut off
 pub flow-served : {K : Type 0} (view : K → StoreView) (rests : Bool) (flow : Dataflow) (before after : LivePoint) (store : K)
     (given gives : Option (List LineIn)) (ended : Bool) (status : Status) (first mid last : SinkView) → before.counts ≡ no_counts
-    → before.At (opening flow) → (view store).records ≡ after.records → ((s : Story) → after.At s → IsStory flow s)
+    → before.At (opening flow) [] → (view store).records ≡ after.records → ((s : Story) (kept : List ℕ) → after.At s kept → IsStory flow s)
     → Serves rests flow before after given gives (λ text. IsWritten text first mid) → ended ≡ true
     → (EndsWhole status → (status ≡ status_by after.counts) × IsWritten (counts_line after.counts) mid last)
     → (EndsBefore status → IsLineCutAt status (counts_line after.counts) mid last) → (EndsUnbegun status → ⊥) → (TellsOfRoot status → ⊥)
@@ -131,7 +131,7 @@ pub flow-served : {K : Type 0} (view : K → StoreView) (rests : Bool) (flow : D
 flow-served view rests flow before after store given gives ended status first mid last none at records there so ends whole part begun root =
     let line = counts_line after.counts in
     let served = λ (relied : (k : _) → AreLinesReliedOn (view k).records flow so.lines).
-    so.serves (opening flow) at (subst (λ r. AreLinesReliedOn r flow so.lines) records (relied store)) in
+    so.serves (opening flow) [] at (subst (λ r. AreLinesReliedOn r flow so.lines) records (relied store)) in
     record {
       whole = λ e. (
         record {
@@ -173,7 +173,7 @@ put-at serve.NoMemory first last text e p = p
 -- it ended before the lines did
 pub flow-stopped : {K : Type 0} (view : K → StoreView) (rests : Bool) (flow : Dataflow) (before : LivePoint) (records : Option Records) (store : K)
     (given gives : Option (List LineIn)) (ended : Bool) (fault : ServeFault) (first last : SinkView) → before.counts ≡ no_counts
-    → before.At (opening flow) → (view store).records ≡ records
+    → before.At (opening flow) [] → (view store).records ≡ records
     → ServesPart rests flow before records given gives (IsPutBefore fault first last) → EndsBefore (stopped_status fault)
     → FlowAnswers view rests flow given gives ended (stopped_status fault) first last
 flow-stopped view rests flow before records store given gives ended fault first last none at told so e = record {
@@ -184,7 +184,7 @@ flow-stopped view rests flow before records store given gives ended fault first 
     one = so.one;
     gave = so.gave;
     printed = λ relied.
-        let a = so.serves (opening flow) at (subst (λ r. AreLinesReliedOn r flow so.lines) told (relied store)) in record {
+        let a = so.serves (opening flow) [] at (subst (λ r. AreLinesReliedOn r flow so.lines) told (relied store)) in record {
           printed = answers_text flow before.counts a.answers;
           text = inl (record {
             answers = a.answers;

@@ -5,3 +5,4 @@ pub mod LifeTextLaws
 pub mod AnsweredLaws
 pub mod ServingLaws
 pub mod CommandLaws
+pub mod StreamLaws

@@ -17,10 +17,10 @@ use Rattle.fw_live.specs.declared.fault.ServeFault.{ServeFault}
 use Rattle.fw_live.specs.declared.fault.ServeFault.TheVariants.{Read, Write, Store, NoMemory}
 use Rattle.fw_live.specs.declared.rule.LineRule.{LineRule}
 use Rattle.fw_live.specs.Answered.{HasAnswered}
-use Rattle.fw_live.specs.Answers.{Answer, answer_text, saturated, counts_after}
+use Rattle.fw_live.specs.Answers.{Answer, answer_text, saturated, counts_after, lines_kept}
 use Rattle.fw_live.specs.Asked.{Asked, LineIn, asked_for}
 use Rattle.fw_live.specs.Given.{with_line_given}
-use Rattle.fw_live.specs.Life.{AreAnswers, answers_text, counts_behind}
+use Rattle.fw_live.specs.Life.{AreAnswers, answers_text, counts_behind, kept_behind}
 use Rattle.fw_live.specs.Relies.{IsAskedReliedOn, IsLineReliedOn}
 use Rattle.fw_live.specs.Serving.{AreLinesReliedOn, GivesAtMostOne, HasAnsweredAll, HasServed, IsCutBy, IsPutBefore, Serves, ServesPart, LivePoint}
 use Rattle.fw_live.proofs.TakingLaws.{relied-maybe}
@@ -59,6 +59,11 @@ answers-more rests flow story (line ∷ lines) others [] more between last a b =
 answers-more rests flow story (line ∷ lines) others (x ∷ answers) more between last a b =
     (a.0, a.1, answers-more rests flow a.0 lines others answers more between last a.2 b)
 
+kept-more : (flow : Dataflow) (answers more : List Answer) (kept : List ℕ)
+    → kept_behind flow kept (answers ++ more) ≡ kept_behind flow (kept_behind flow kept answers) more
+kept-more flow [] more kept = refl
+kept-more flow (x ∷ answers) more kept = kept-more flow answers more (lines_kept flow kept x)
+
 counts-more : (answers more : List Answer) (counts : LineCounts) → counts_behind (answers ++ more) counts ≡ counts_behind more (counts_behind answers counts)
 counts-more [] more counts = refl
 counts-more (x ∷ answers) more counts = counts-more answers more (counts_after x counts)
@@ -89,19 +94,19 @@ pub serves-none : (rests : Bool) (flow : Dataflow) (at : LivePoint) (given : Opt
 serves-none rests flow at given view = record {
   lines = [];
   gave = given-none given;
-  serves = λ story there relied. record { answers = []; last = story; are = refl; put = written_nothing view; counted = refl; at = there };
+  serves = λ story kept there relied. record { answers = []; last = story; are = refl; put = written_nothing view; counted = refl; at = there };
 }
 
 -- one line was answered
 pub serves-one : (rests : Bool) (flow : Dataflow) (before after : LivePoint) (line : LineIn) (given gives : Option (List LineIn)) (text : List ℕ)
     → gives ≡ with_line_given line given
-    → ((story : Story) → before.At story → IsLineReliedOn after.records flow line
-    → HasAnswered rests flow story (asked_for flow line) before.counts after.counts [] text after.At)
+    → ((story : Story) (kept : List ℕ) → before.At story kept → IsLineReliedOn after.records flow line
+    → HasAnswered rests flow story kept (asked_for flow line) before.counts after.counts [] text after.At)
     → Serves rests flow before after given gives (λ bytes. text ≡ bytes)
 serves-one rests flow before after line given gives text gave answered = record {
   lines = line ∷ [];
   gave = gave;
-  serves = λ story there relied. let a = answered story there relied.0 in record {
+  serves = λ story kept there relied. let a = answered story kept there relied.0 in record {
     answers = a.answer ∷ [];
     last = a.next;
     are = (a.next, a.answers, refl);
@@ -112,11 +117,11 @@ serves-one rests flow before after line given gives text gave answered = record 
 }
 
 -- where lines were answered, and then one more
-two-served : (rests : Bool) (flow : Dataflow) (first second third : LivePoint) (story : Story) (one other : List LineIn) (text : List ℕ)
-    (IsPut All : List ℕ → Type 0) (before : HasServed rests flow first second story one IsPut)
-    → HasServed rests flow second third before.last other (λ bytes. text ≡ bytes) → ((bytes : List ℕ) → IsPut bytes → All (bytes ++ text))
-    → HasServed rests flow first third story (one ++ other) All
-two-served rests flow first second third story one other text IsPut All a b join = record {
+two-served : (rests : Bool) (flow : Dataflow) (first second third : LivePoint) (story : Story) (kept : List ℕ) (one other : List LineIn) (text : List ℕ)
+    (IsPut All : List ℕ → Type 0) (before : HasServed rests flow first second story kept one IsPut)
+    → HasServed rests flow second third before.last (kept_behind flow kept before.answers) other (λ bytes. text ≡ bytes) → ((bytes : List ℕ) → IsPut bytes → All (bytes ++ text))
+    → HasServed rests flow first third story kept (one ++ other) All
+two-served rests flow first second third story kept one other text IsPut All a b join = record {
   answers = a.answers ++ b.answers;
   last = b.last;
   are = answers-more rests flow story one other a.answers b.answers a.last b.last a.are b.are;
@@ -125,7 +130,7 @@ two-served rests flow first second third story one other text IsPut All a b join
       ∙ sym (text-more flow a.answers b.answers first.counts))
       (join (answers_text flow first.counts a.answers) a.put);
   counted = b.counted ∙ ap (counts_behind b.answers) a.counted ∙ sym (counts-more a.answers b.answers first.counts);
-  at = b.at;
+  at = subst (third.At b.last) (sym (kept-more flow a.answers b.answers kept)) b.at;
 }
 
 both-served : (rests : Bool) (flow : Dataflow) (first second third : LivePoint) (given gives more : Option (List LineIn)) (text : List ℕ)
@@ -135,10 +140,10 @@ both-served : (rests : Bool) (flow : Dataflow) (first second third : LivePoint) 
 both-served rests flow first second third given gives more text IsPut All one two join told = record {
   lines = one.lines ++ two.lines;
   gave = given-more one.lines two.lines given gives more one.gave two.gave;
-  serves = λ story there relied.
-      let a = one.serves story there (relied-lines second.records third.records flow one.lines told (relied-first third.records flow one.lines two.lines relied)) in
-      two-served rests flow first second third story one.lines two.lines text IsPut All a
-      (two.serves a.last a.at (relied-second third.records flow one.lines two.lines relied)) join;
+  serves = λ story kept there relied.
+      let a = one.serves story kept there (relied-lines second.records third.records flow one.lines told (relied-first third.records flow one.lines two.lines relied)) in
+      two-served rests flow first second third story kept one.lines two.lines text IsPut All a
+      (two.serves a.last (kept_behind flow kept a.answers) a.at (relied-second third.records flow one.lines two.lines relied)) join;
 }
 
 -- the same of a session whose flow and whose manner stayed
@@ -188,10 +193,10 @@ put-before Write text before after n w = absurd (n refl)
 put-before Store text before after n w = w
 put-before NoMemory text before after n w = inl w
 
-answered-all : (rests : Bool) (flow : Dataflow) (before after : LivePoint) (story : Story) (lines : List LineIn) (IsPut All : List ℕ → Type 0)
-    → HasServed rests flow before after story lines IsPut → ((text : List ℕ) → IsPut text → All text)
+answered-all : (rests : Bool) (flow : Dataflow) (before after : LivePoint) (story : Story) (kept : List ℕ) (lines : List LineIn)
+    (IsPut All : List ℕ → Type 0) → HasServed rests flow before after story kept lines IsPut → ((text : List ℕ) → IsPut text → All text)
     → HasAnsweredAll rests flow before.counts story lines All
-answered-all rests flow before after story lines IsPut All s put =
+answered-all rests flow before after story kept lines IsPut All s put =
     record { answers = s.answers; last = s.last; are = s.are; put = put (answers_text flow before.counts s.answers) s.put }
 
 -- no answer was begun: the source gave one line more at most
@@ -204,8 +209,8 @@ part-before rests flow first second records given gives more fault before after 
   unanswered = next.lines;
   one = next.one;
   gave = given-more so.lines next.lines given gives more so.gave next.gave;
-  serves = λ story there relied. answered-all rests flow first second story so.lines (λ bytes. IsWritten bytes before after) (IsPutBefore fault before after)
-      (so.serves story there (relied-lines second.records records flow so.lines told relied)) (λ text put. put-before fault text before after safe put);
+  serves = λ story kept there relied. answered-all rests flow first second story kept so.lines (λ bytes. IsWritten bytes before after) (IsPutBefore fault before after)
+      (so.serves story kept there (relied-lines second.records records flow so.lines told relied)) (λ text put. put-before fault text before after safe put);
 }
 
 -- an answer was cut off
@@ -223,8 +228,8 @@ part-within rests rests2 flow flow2 first second third given gives more text fau
       unanswered = [];
       one = omega arith;
       gave = all.gave ∙ ap (λ lines. option_map (λ earlier. earlier ++ lines) given) (sym (append-nil all.lines));
-      serves = λ story there relied. answered-all rests flow first third story all.lines (IsPutBefore fault before after) (IsPutBefore fault before after)
-          (all.serves story there relied) (λ text put. put);
+      serves = λ story kept there relied. answered-all rests flow first third story kept all.lines (IsPutBefore fault before after) (IsPutBefore fault before after)
+          (all.serves story kept there relied) (λ text put. put);
     }
 
 -- no line was given

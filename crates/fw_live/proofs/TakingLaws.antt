@@ -16,7 +16,7 @@ use Rattle.fw_running.specs.declared.fault.EngineFault.{EngineFault}
 use Rattle.fw_running.specs.declared.fault.EngineFault.TheVariants as fault
 use Rattle.fw_running.specs.declared.stepped.Stepped.{Stepped}
 use Rattle.fw_running.specs.EffectText.{outcome_text}
-use Rattle.fw_running.specs.Steps.{Trusts, outcome_of}
+use Rattle.fw_running.specs.Steps.{FirstMayCall, Trusts, outcome_of}
 use Rattle.fw_run.specs.Printed.{outcomes_text, is_idle}
 use Rattle.fw_session.specs.Session.{IsLeftAt, StepGoesOn}
 use Rattle.fw_session.specs.Story.{Story, IsStory, system_now, after_step}
@@ -75,7 +75,7 @@ trusts sys state step records r = tt
 left : (flow : Dataflow) (step : Step) (story : Story) (P : Story → Type 0) → IsLeftAt flow step story P
     → (next : Story) × IsLeftInStory flow story step next × P next
 left flow Collect story P l = (l.1.0, (l.0, (l.1.0, l.1.1, refl)), l.1.2)
-left flow step story P l = (story, refl, l)
+left flow step story P l = (story, (l.0, refl), l.1)
 
 pub step-done : (flow : Dataflow) (step : Step) (stepped : Stepped) (after : Option Records) (Before After : Story → Type 0) (story : Story)
     (old new : List ℕ) (counts counted : TurnCounts) → StepGoesOn flow step (Ok stepped) after Before After → ((s : Story) → After s → IsStory flow s)
@@ -202,20 +202,27 @@ auto-full flow story n most At before between so full =
 
 -- the store failed in one
 pub auto-fails : (flow same : Dataflow) (story : Story) (n most : ℕ) (f : EngineFault) (Before After : Story → Type 0)
-    (before between : Printed) → GoesOnPrinting flow (HasTaken flow story n) before between Before → AutoGoesOn same (Err f) Before After
-    → n < most → EndsSo {T = Unit {0}} (λ ending. GoesOnPrinting flow (EndsItem flow story (Auto most) ending) before between After) (Err f)
-auto-fails flow same story n most fault.StoreFault Before After before between so goes few =
+    (before between : Printed) → same ≡ flow → GoesOnPrinting flow (HasTaken flow story n) before between Before
+    → AutoGoesOn same (Err f) Before After → n < most → EndsSo {T = Unit {0}} (λ ending. GoesOnPrinting flow (EndsItem flow story (Auto most) ending) before between After) (Err f)
+auto-fails flow same story n most fault.StoreFault Before After before between flows so goes few =
     let done = so.goes_on in
+    let left = goes.faulted so.next so.at refl in
     record {
       outcomes = so.outcomes;
       next = so.next;
-      goes_on = (done.effects, done.are, done.firsts, omega (arith, done.many, few));
+      goes_on = (
+        done.effects,
+        done.are,
+        done.firsts,
+        omega (arith, done.many, few),
+        subst (λ d. FirstMayCall (system_now d so.next) so.next.now.state) flows left.0,
+      );
       printed = so.printed;
       counted = so.counted;
-      at = goes.faulted so.next so.at refl;
+      at = left.1;
     }
-auto-fails flow same story n most (fault.Damaged id) Before After before between so goes few = absurd (goes.unharmed id refl)
-auto-fails flow same story n most fault.NoMemory Before After before between so goes few = tt
+auto-fails flow same story n most (fault.Damaged id) Before After before between flows so goes few = absurd (goes.unharmed id refl)
+auto-fails flow same story n most fault.NoMemory Before After before between flows so goes few = tt
 
 -- ---- the steps of a line
 

@@ -110,6 +110,13 @@ abbrev pub counts_after : Answer → LineCounts → LineCounts
 counts_after (refused rule) counts = with_line counts
 counts_after (turned turn) counts = counts_turned turn (with_line counts)
 
+-- ---- what is kept
+
+-- the lines that are kept behind an answer: those of what the steps of the line showed; where it is refused, those that were kept before
+abbrev pub lines_kept : Dataflow → List ℕ → Answer → List ℕ
+lines_kept flow kept (refused rule) = kept
+lines_kept flow kept (turned turn) = outcomes_text flow turn.outcomes
+
 -- ---- which answer it is
 
 -- what a line asks for in a story, or the rule that it breaks there

@@ -1,11 +1,15 @@
 -- What a source of lines gave.
-use Rattle.std.specs.Prelude.{ℕ, Bool, true, List, [], ◌∷◌, ◌++◌, map, take, length, ◌==◌, if◌then◌else◌, Option, Some, None, option_map, Result, Ok, Err}
+use Rattle.std.specs.Prelude.{◌≡◌, ◌≢◌, ◌<◌, ◌≤◌, ℕ, Bool, true, List, [], ◌∷◌, ◌++◌, map, take, length, ◌==◌, if◌then◌else◌, Option, Some, None, option_map, Result, Ok, Err}
+use Rattle.std.specs.Io.KnownBytes.{Consumes, IsAtEnd, Keeps}
 use Rattle.std.specs.declared.alloc.Global.{Global}
 use Rattle.std.specs.declared.vec.Vec.{Vec}
 use Rattle.fw_heard.specs.Note.{Note}
 use Rattle.fw_outside.specs.declared.fault.OutFault.{OutFault}
 use Rattle.fw_live.specs.declared.line_source.NextLine.{NextLine}
 use Rattle.fw_live.specs.declared.line_source.NextLine.TheVariants.{Line, TooLong, End}
+use Rattle.fw_live.specs.declared.stream_lines.Met.{Met}
+use Rattle.fw_live.specs.declared.stream_lines.Met.TheVariants as met
+use Rattle.fw_live.specs.Asked.{first_line}
 
 -- these lines, and one more behind them
 abbrev pub with_line_given : Option (List ℕ) → Option (List (Option (List ℕ))) → Option (List (Option (List ℕ)))
@@ -35,3 +39,17 @@ lines_heard (note ∷ earlier) = lines_heard earlier ++ line_of note ∷ []
 -- so many first lines of those in memory
 abbrev pub lines_given : List (Vec ℕ Global) → ℕ → List (Option (List ℕ))
 lines_given lines count = map (λ (line : Vec ℕ Global). Some line.items) (take count lines)
+
+-- ---- of a stream
+
+-- Where a stream has these bytes left this comes of it: its first line, which is within the limit; that it is longer; or that none comes.
+abbrev pub IsLineOf : ℕ → List ℕ → NextLine → List ℕ → Type 0
+IsLineOf limit bytes Line line = (bytes ≢ []) × (line ≡ first_line bytes) × (length line ≤ limit)
+IsLineOf limit bytes TooLong line = limit < length (first_line bytes)
+IsLineOf limit bytes End line = bytes ≡ []
+
+-- These bytes came of it, and a line feed behind them; no byte is left; or they came, and the line may go on.
+abbrev pub MeetsBy : Met → Option (List ℕ) → Option (List ℕ) → List ℕ → Type 0
+MeetsBy met.LineFeed before after bytes = Consumes before after (bytes ++ 10 ∷ [])
+MeetsBy met.End before after bytes = (bytes ≡ []) × IsAtEnd before × Keeps before after
+MeetsBy met.Part before after bytes = Consumes before after bytes

@@ -5,7 +5,7 @@ use Rattle.fw_flow.specs.Dataflow.{Dataflow}
 use Rattle.fw_run.specs.Printed.{done_line}
 use Rattle.fw_session.specs.Story.{Story}
 use Rattle.fw_live.specs.declared.counts.LineCounts.{LineCounts}
-use Rattle.fw_live.specs.Answers.{Answer, answer_text, saturated, counts_after, IsLineAnswer}
+use Rattle.fw_live.specs.Answers.{Answer, answer_text, saturated, counts_after, lines_kept, IsLineAnswer}
 use Rattle.fw_live.specs.Asked.{LineIn}
 
 -- From a story the lines are answered so, one after the other, and lead to the last one.
@@ -20,6 +20,11 @@ AreAnswers rests flow story (line ∷ lines) (answer ∷ answers) last =
 abbrev pub counts_behind : List Answer → LineCounts → LineCounts
 counts_behind [] counts = counts
 counts_behind (answer ∷ answers) counts = counts_behind answers (counts_after answer counts)
+
+-- the lines that are kept behind these answers
+abbrev pub kept_behind : Dataflow → List ℕ → List Answer → List ℕ
+kept_behind flow kept [] = kept
+kept_behind flow kept (answer ∷ answers) = kept_behind flow (lines_kept flow kept answer) answers
 
 -- the lines of these answers, behind what was counted
 abbrev pub answers_text : Dataflow → LineCounts → List Answer → List ℕ

@@ -14,36 +14,37 @@ use Rattle.fw_live.specs.declared.fault.ServeFault.{ServeFault}
 use Rattle.fw_live.specs.declared.fault.ServeFault.TheVariants.{Read, Write, Store, NoMemory}
 use Rattle.fw_live.specs.Answers.{Answer}
 use Rattle.fw_live.specs.Asked.{LineIn}
-use Rattle.fw_live.specs.Life.{AreAnswers, answers_text, counts_behind}
+use Rattle.fw_live.specs.Life.{AreAnswers, answers_text, counts_behind, kept_behind}
 use Rattle.fw_live.specs.Relies.{IsLineReliedOn}
 
 -- The steps of lines can be relied on.
 abbrev pub AreLinesReliedOn : Option Records → Dataflow → List LineIn → Type 0
 AreLinesReliedOn records flow lines = AllByRecursion (IsLineReliedOn records flow) lines
 
--- Where a session that answers lines stands: what it counted, what its store tells, and at which stories it is.
+-- Where a session that answers lines stands: what it counted, what its store tells, and at which stories it is, with which lines kept.
 pub record LivePoint : Type 1 where
   pub counts : LineCounts
   pub records : Option Records
-  pub At : Story → Type 0
+  pub At : Story → List ℕ → Type 0
 
--- From a story the lines were answered, and of the text of the answers this is true; so they were counted, and the session is at the last
--- story.
-pub record HasServed (rests : Bool) (flow : Dataflow) (before after : LivePoint) (story : Story) (lines : List LineIn) (IsPut : List ℕ → Type 0)
-    : Type 0 where
+-- From a story, where these lines were kept, the lines were answered, and of the text of the answers this is true; so they were counted, and
+-- the session is at the last story, with the lines kept of the last answer that has any.
+pub record HasServed (rests : Bool) (flow : Dataflow) (before after : LivePoint) (story : Story) (kept : List ℕ) (lines : List LineIn)
+    (IsPut : List ℕ → Type 0) : Type 0 where
   pub answers : List Answer
   pub last : Story
   pub are : AreAnswers rests flow story lines answers last
   pub put : IsPut (answers_text flow before.counts answers)
   pub counted : after.counts ≡ counts_behind answers before.counts
-  pub at : after.At last
+  pub at : after.At last (kept_behind flow kept answers)
 
 -- The source gave these lines, and from each story at which the session was they were answered, as far as their steps can be relied on.
 pub record Serves (rests : Bool) (flow : Dataflow) (before after : LivePoint) (given gives : Option (List LineIn)) (IsPut : List ℕ → Type 0)
     : Type 0 where
   pub lines : List LineIn
   pub gave : gives ≡ option_map (λ earlier. earlier ++ lines) given
-  pub serves : (story : Story) → before.At story → AreLinesReliedOn after.records flow lines → HasServed rests flow before after story lines IsPut
+  pub serves : (story : Story) (kept : List ℕ) → before.At story kept → AreLinesReliedOn after.records flow lines
+      → HasServed rests flow before after story kept lines IsPut
 
 -- ---- where it ends before the lines do
 
@@ -75,7 +76,8 @@ pub record ServesPart (rests : Bool) (flow : Dataflow) (before : LivePoint) (rec
   pub unanswered : List LineIn
   pub one : length unanswered ≤ 1
   pub gave : gives ≡ option_map (λ earlier. earlier ++ (lines ++ unanswered)) given
-  pub serves : (story : Story) → before.At story → AreLinesReliedOn records flow lines → HasAnsweredAll rests flow before.counts story lines IsPut
+  pub serves : (story : Story) (kept : List ℕ) → before.At story kept → AreLinesReliedOn records flow lines
+      → HasAnsweredAll rests flow before.counts story lines IsPut
 
 -- an answer was cut off so
 abbrev pub IsCutBy : ServeFault → List ℕ → SinkView → SinkView → Type 0

@@ -7,6 +7,7 @@ use Rattle.fw_schedule.specs.declared.item.Item.TheVariants.{One, Auto}
 use Rattle.fw_model.specs.Auto.{AreIdle, IsFirstEnabled}
 use Rattle.fw_model.specs.Machine.{Machine}
 use Rattle.fw_model.specs.Steps.{Effect, Outcome, did}
+use Rattle.fw_running.specs.Steps.{FirstMayCall}
 use Rattle.fw_session.specs.Session.{GoesOnBy, IsLeftAt}
 use Rattle.fw_session.specs.Story.{Story, IsStory, system_now, after_step}
 use Rattle.fw_living.specs.Life.{auto_steps_now}
@@ -46,17 +47,19 @@ pub data Ending : Type 0 where
   failed : Ending
   spoiled : ℕ → Ending
 
--- the story that the store left in a step: the one before, but that a collection, which sweeps last, may be done
+-- the story that the store left in a step: the one before, at which the step needs the store, but that a collection, which sweeps last, may be
+-- done
 abbrev pub IsLeftInStory : Dataflow → Story → Step → Story → Type 0
 IsLeftInStory flow story step next = IsLeftAt flow step story (λ left. left ≡ next)
 
--- From a story an item ends so behind steps with these outcomes.
+-- From a story an item ends so behind steps with these outcomes; where the store failed in `auto`, the next step asks for a write.
 abbrev pub StopsItem : Dataflow → Story → Item → Ending → List Outcome → Story → Type 0
 StopsItem flow story item all outcomes next = ⊥
 StopsItem flow story (One step) failed outcomes next = (outcomes ≡ []) × IsLeftInStory flow story step next
 StopsItem flow story (One step) (spoiled id) outcomes next = (outcomes ≡ []) × (next ≡ story)
 StopsItem flow story (Auto most) failed outcomes next =
     (effects : List Effect) × (outcomes ≡ map did effects) × TakesFirsts flow story effects next × (length effects < most)
+    × FirstMayCall (system_now flow next) next.now.state
 StopsItem flow story (Auto most) (spoiled id) outcomes next = ⊥
 
 -- From a story an item is taken, or ends so.

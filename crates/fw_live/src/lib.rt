@@ -28,4 +28,4 @@ pub use rule::LineRule;
 pub use serving::serve;
 pub use stream_lines::StreamLines;
 pub use text::last_line;
-pub use words::is_live;
+pub use words::{LiveWords, is_live, parse};

@@ -28,7 +28,7 @@ pub trait LineSource {
     ghost fault_count: { Self → ℕ };
 
     /// Puts the bytes of the next line, without the line feed that ends it, into `into`, in place of what was there. One that is longer
-    /// than the limit may be passed over.
+    /// than the limit may be passed over. That a line which is told as too long is longer, no clause of a source says.
     ///
     /// # Errors
     ///

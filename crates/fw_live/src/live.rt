@@ -1,5 +1,5 @@
 //! A session that answers lines.
-ghost use Rattle.std.specs.Prelude.{◌≡◌, Some, None, false, IsErrOf, IsSome, IfOk};
+ghost use Rattle.std.specs.Prelude.{◌≡◌, ℕ, List, Some, None, false, IsErrOf, IsSome, IfOk};
 ghost use Rattle.fw_flow.specs.Sources.{sources_of};
 ghost use Rattle.fw_engine.specs.Engine.{flow_of};
 ghost use Rattle.fw_keep.specs.Stored.{IsEmptyStore};
@@ -75,11 +75,11 @@ impl<S: Living + Drop> Live<S> {
     ///
     /// Those of `Living::keep_line` and of `Living::feed`: then the answer may not be told, and no further line be answered.
     pub fn answer(&mut self, line: &[u8], into: &mut Vec<u8>) -> Result<(), LifeFault>
-        ensures answered { (story : Story) → S.at self.old.session story → S.keeps self.old.session story
+        ensures answered { (story : Story) (kept : List ℕ) → S.at self.old.session story → S.keeps self.old.session story kept
             → IsLineReliedOn (S.records self.new.session) (flow_of (S.engine_of self.old.session)) (Some line.now)
-            → IfOk result (λ _. HasAnswered self.old.rests (flow_of (S.engine_of self.old.session)) story (asked_for (flow_of (S.engine_of self.old.session)) (Some line.now))
+            → IfOk result (λ _. HasAnswered self.old.rests (flow_of (S.engine_of self.old.session)) story kept (asked_for (flow_of (S.engine_of self.old.session)) (Some line.now))
             self.old.counts self.new.counts into.old.items into.new.items
-            (λ next. S.at self.new.session next × S.keeps self.new.session next)) }
+            (λ next lines. S.at self.new.session next × S.keeps self.new.session next lines)) }
         ensures flow { flow_of (S.engine_of self.new.session) ≡ flow_of (S.engine_of self.old.session) }
         ensures rests { self.new.rests ≡ self.old.rests }
         ensures told_before { IsSome (S.records self.new.session) → IsSome (S.records self.old.session) }
@@ -100,10 +100,10 @@ impl<S: Living + Drop> Live<S> {
     ///
     /// Want of memory.
     pub fn answer_long(&mut self, into: &mut Vec<u8>) -> Result<(), LifeFault>
-        ensures answered { (story : Story) → S.at self.old.session story → S.keeps self.old.session story
-            → IfOk result (λ _. HasAnswered self.old.rests (flow_of (S.engine_of self.old.session)) story (asked_for (flow_of (S.engine_of self.old.session)) None)
+        ensures answered { (story : Story) (kept : List ℕ) → S.at self.old.session story → S.keeps self.old.session story kept
+            → IfOk result (λ _. HasAnswered self.old.rests (flow_of (S.engine_of self.old.session)) story kept (asked_for (flow_of (S.engine_of self.old.session)) None)
             self.old.counts self.new.counts into.old.items into.new.items
-            (λ next. S.at self.new.session next × S.keeps self.new.session next)) }
+            (λ next lines. S.at self.new.session next × S.keeps self.new.session next lines)) }
         ensures flow { flow_of (S.engine_of self.new.session) ≡ flow_of (S.engine_of self.old.session) }
         ensures rests { self.new.rests ≡ self.old.rests }
         ensures told_before { IsSome (S.records self.new.session) → IsSome (S.records self.old.session) }
@@ -118,11 +118,11 @@ impl<S: Living + Drop> Live<S> {
         heard: Result<Asked, LineRule>,
         into: &mut Vec<u8>,
     ) -> Result<(), LifeFault>
-        ensures answered { (story : Story) → S.at self.old.session story → S.keeps self.old.session story
+        ensures answered { (story : Story) (kept : List ℕ) → S.at self.old.session story → S.keeps self.old.session story kept
             → IsAskedReliedOn (S.records self.new.session) (heard_in heard)
-            → IfOk result (λ _. HasAnswered self.old.rests (flow_of (S.engine_of self.old.session)) story (heard_in heard)
+            → IfOk result (λ _. HasAnswered self.old.rests (flow_of (S.engine_of self.old.session)) story kept (heard_in heard)
             self.old.counts self.new.counts into.old.items into.new.items
-            (λ next. S.at self.new.session next × S.keeps self.new.session next)) }
+            (λ next lines. S.at self.new.session next × S.keeps self.new.session next lines)) }
         ensures flow { flow_of (S.engine_of self.new.session) ≡ flow_of (S.engine_of self.old.session) }
         ensures rests { self.new.rests ≡ self.old.rests }
         ensures told_before { IsSome (S.records self.new.session) → IsSome (S.records self.old.session) }

@@ -35,12 +35,12 @@ pub fn serve<S: Living + Drop, L: LineSource, O: Sink>(
         (record {
           counts = live.old.counts;
           records = S.records live.old.session;
-          At = λ story. S.at live.old.session story × S.keeps live.old.session story;
+          At = λ story kept. S.at live.old.session story × S.keeps live.old.session story kept;
         })
         (record {
           counts = live.new.counts;
           records = S.records live.new.session;
-          At = λ story. S.at live.new.session story × S.keeps live.new.session story;
+          At = λ story kept. S.at live.new.session story × S.keeps live.new.session story kept;
         })
         (L.given input.old) (L.given input.new) (λ text. IsWritten text (O.view out.old) (O.view out.new))) }
     ensures ended { OnOk result (L.ended input.new ≡ true) }
@@ -49,7 +49,7 @@ pub fn serve<S: Living + Drop, L: LineSource, O: Sink>(
         (record {
           counts = live.old.counts;
           records = S.records live.old.session;
-          At = λ story. S.at live.old.session story × S.keeps live.old.session story;
+          At = λ story kept. S.at live.old.session story × S.keeps live.old.session story kept;
         })
         (S.records live.new.session) (L.given input.old) (L.given input.new) (IsPutBefore fault (O.view out.old) (O.view out.new))) }
     ensures lasts { S.lasts ≡ false → IsErrOf result ServeFault.Store → ⊥ }
@@ -79,12 +79,12 @@ fn answer_next<S: Living + Drop, L: LineSource>(
         (record {
           counts = live.old.counts;
           records = S.records live.old.session;
-          At = λ story. S.at live.old.session story × S.keeps live.old.session story;
+          At = λ story kept. S.at live.old.session story × S.keeps live.old.session story kept;
         })
         (record {
           counts = live.new.counts;
           records = S.records live.new.session;
-          At = λ story. S.at live.new.session story × S.keeps live.new.session story;
+          At = λ story kept. S.at live.new.session story × S.keeps live.new.session story kept;
         })
         (L.given input.old) (L.given input.new) (λ bytes. text.items ≡ bytes))) }
     ensures unanswered { IfErr result (λ fault. GivesAtMostOne (L.given input.old) (L.given input.new)) }
@@ -114,12 +114,12 @@ fn answer_line<S: Living + Drop>(
         (record {
           counts = live.old.counts;
           records = S.records live.old.session;
-          At = λ story. S.at live.old.session story × S.keeps live.old.session story;
+          At = λ story kept. S.at live.old.session story × S.keeps live.old.session story kept;
         })
         (record {
           counts = live.new.counts;
           records = S.records live.new.session;
-          At = λ story. S.at live.new.session story × S.keeps live.new.session story;
+          At = λ story kept. S.at live.new.session story × S.keeps live.new.session story kept;
         })
         given (with_line_given (Some line.now) given) (λ bytes. text.items ≡ bytes))) }
     ensures no_write { IsErrOf result ServeFault.Write → ⊥ }
@@ -144,12 +144,12 @@ fn answer_long<S: Living + Drop>(
         (record {
           counts = live.old.counts;
           records = S.records live.old.session;
-          At = λ story. S.at live.old.session story × S.keeps live.old.session story;
+          At = λ story kept. S.at live.old.session story × S.keeps live.old.session story kept;
         })
         (record {
           counts = live.new.counts;
           records = S.records live.new.session;
-          At = λ story. S.at live.new.session story × S.keeps live.new.session story;
+          At = λ story kept. S.at live.new.session story × S.keeps live.new.session story kept;
         })
         given (with_line_given None given) (λ bytes. text.items ≡ bytes))) }
     ensures no_write { IsErrOf result ServeFault.Write → ⊥ }

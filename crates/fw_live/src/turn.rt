@@ -1,5 +1,5 @@
 //! What a line asks for is done, and answered.
-ghost use Rattle.std.specs.Prelude.{◌≡◌, ◌++◌, [], false, IsErr, IsErrOf, IsSome, IfOk, OnOk};
+ghost use Rattle.std.specs.Prelude.{◌≡◌, ℕ, ◌++◌, [], false, length, List, IsErr, IsErrOf, IsSome, IfOk, OnOk};
 ghost use Rattle.fw_engine.specs.Engine.{flow_of};
 ghost use Rattle.fw_session.specs.Story.{Story};
 ghost use Rattle.fw_living.specs.Life.{came_in_story};
@@ -91,7 +91,7 @@ pub(crate) fn turn<S: Living>(
     ensures lasts { S.lasts ≡ false → IsErrOf result LifeFault.StoreFault → ⊥ }
     ensures turned { (story : Story) → S.at session.old story → IsMaybeReliedOn (S.records session.new) (first_item asked.now.items)
         → IfOk result (λ _. HasTurned rests (flow_of (S.engine_of session.old)) story (read_in asked.now) counts.old counts.new into.old.items
-        into.new.items (λ next. S.at session.new next × S.keeps session.new next)) }
+        into.new.items (λ next lines. S.at session.new next × S.keeps session.new next lines)) }
     ensures lines { counts.new.lines ≡ counts.old.lines }
 {
     begin(alloc, session, &asked.change, into)?;
@@ -134,7 +134,9 @@ fn begin<S: Living>(
 }
 
 // The bytes behind so many; none where there are fewer.
-fn behind(bytes: &[u8], count: usize) -> &[u8] {
+fn behind(bytes: &[u8], count: usize) -> &[u8]
+    ensures { (xs ys : List ℕ) → bytes.now ≡ xs ++ ys → count ≡ length xs → result.now ≡ ys }
+{
     bytes.get(count..).unwrap_or(&[])
 }
 
@@ -148,7 +150,7 @@ fn keep<S: Living>(
     ensures flow { flow_of (S.engine_of session.new) ≡ flow_of (S.engine_of session.old) }
     ensures told_before { IsSome (S.records session.new) → IsSome (S.records session.old) }
     ensures lasts { S.lasts ≡ false → IsErrOf result LifeFault.StoreFault → ⊥ }
-    ensures kept { (story : Story) → S.at session.old story → OnOk result (S.at session.new story × S.keeps session.new story) }
+    ensures kept { (story : Story) → S.at session.old story → OnOk result (S.at session.new story × S.keeps session.new story lines.now) }
     ensures no_memory { IsErrOf taken EngineFault.NoMemory → IsErr result }
 {
     match taken {

@@ -6,9 +6,9 @@ ghost use Rattle.fw_live.specs.Words.{live_in, live_of};
 
 /// The name of the flow's text, and whether each line that is accepted ends with steps to rest.
 #[derive(Clone, Copy, Debug)]
-pub(crate) struct LiveWords<'a> {
-    pub(crate) flow: &'a str,
-    pub(crate) rests: bool,
+pub struct LiveWords<'a> {
+    pub flow: &'a str,
+    pub rests: bool,
 }
 
 /// Whether words are for `falkirk_live`: the first of them is `live`.
@@ -22,7 +22,7 @@ pub fn is_live(words: &[&str]) -> bool
 }
 
 /// What the words ask for, if they are a command: `live FLOW`, or `live FLOW auto`.
-pub(crate) fn parse<'a>(words: &'a [&'a str]) -> Option<LiveWords<'a>>
+pub fn parse<'a>(words: &'a [&'a str]) -> Option<LiveWords<'a>>
     ensures { option_map live_in result ≡ live_of (words_in words.now) }
 {
     match words {

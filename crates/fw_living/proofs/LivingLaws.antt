@@ -56,6 +56,13 @@ auto-on engine records arrivals result After goes = record {
 
 -- ---- batches
 
+-- what stays is at the same story
+pub at-same : (old new : Engine) (before after : Option Records) (arrivals later : Arrivals) (story : Story) → IsAt old before arrivals story
+    → new ≡ old → after ≡ before → later ≡ arrivals → IsAt new after later story
+at-same old new before after arrivals later story at e r a =
+    subst (λ engine. IsAt engine after later story) (sym e)
+    (subst (λ records. IsAt old records later story) (sym r) (subst (λ came. IsAt old before came story) (sym a) at))
+
 pub fed-life : (r : Result ℕ FeedFault) (q : Result ℕ LifeFault) (n m : ℕ) (At : Type 0) → q ≡ life_of r → IfOk r (λ x. x ≡ n) → IfOk r (λ x. At)
     → n ≡ m → IfOk q (λ x. (x ≡ m) × At)
 fed-life (Ok x) q n m At e a b same = subst (λ p. IfOk p (λ y. (y ≡ m) × At)) (sym e) (a ∙ same, b)
@@ -81,7 +88,7 @@ not-memory r q e m f = absurd (apart (sym (e ∙ ap life_of m) ∙ f))
     apart : life_of (Err feed.NoMemory) ≡ Err NotFed → ⊥
     apart e = absurd cc
 
-is-err : (r : Result ℕ FeedFault) (q : Result ℕ LifeFault) → q ≡ life_of r → q ≡ Err NotFed → IsErr r
+pub is-err : (r : Result ℕ FeedFault) (q : Result ℕ LifeFault) → q ≡ life_of r → q ≡ Err NotFed → IsErr r
 is-err (Ok x) q e f = absurd cc
 is-err (Err g) q e f = refl
 

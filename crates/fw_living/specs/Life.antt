@@ -9,7 +9,7 @@ use Rattle.fw_running.specs.declared.fault.EngineFault.{EngineFault}
 use Rattle.fw_running.specs.declared.fault.EngineFault.TheVariants as fault
 use Rattle.fw_running.specs.declared.stepped.Stepped.{Stepped}
 use Rattle.fw_running.specs.Fed.{auto_steps_within}
-use Rattle.fw_running.specs.Steps.{outcome_of}
+use Rattle.fw_running.specs.Steps.{FirstMayCall, outcome_of}
 use Rattle.fw_session.specs.declared.fault.FeedFault.{FeedFault}
 use Rattle.fw_session.specs.declared.fault.FeedFault.TheVariants as feed
 use Rattle.fw_session.specs.Story.{Story, system_now, came_to, after_step}
@@ -32,10 +32,12 @@ GoesOnByAuto flow (did effect) story P =
     (auto_steps_now flow story) step state effect
 GoesOnByAuto flow idle story P = P story × AreIdle (system_now flow story) story.now.state (auto_steps_now flow story)
 
--- What the first step that is enabled answers, by the stories at which a session is before and after.
+-- What the first step that is enabled answers, by the stories at which a session is before and after: it is one that asks for a write, where
+-- the store fails, and no record is damaged.
 pub record AutoGoesOn (flow : Dataflow) (result : Result Stepped EngineFault) (Before After : Story → Type 0) : Type 0 where
   pub ok : (story : Story) → Before story → IfOk result (λ stepped. GoesOnByAuto flow (outcome_of stepped) story After)
-  pub faulted : (story : Story) → Before story → IsErrOf result fault.StoreFault → After story
+  pub faulted : (story : Story) → Before story → IsErrOf result fault.StoreFault
+      → FirstMayCall (system_now flow story) story.now.state × After story
   pub unharmed : (id : ℕ) → IsErrOf result (fault.Damaged id) → ⊥
 
 -- what a session that keeps nothing answers, by the faults of one over which lines are answered

@@ -1,7 +1,9 @@
 //! A session over which lines can be answered.
-ghost use Rattle.std.specs.Prelude.{◌≡◌, ◌↔◌, ◌⊎◌, ◌-◌, ◌^◌, ◌≤◌, false, Bool, Option, IfOk, IsErrOf, IsSome, OnOk};
+ghost use Rattle.std.specs.Prelude.{◌≡◌, ◌≢◌, ◌↔◌, ◌⊎◌, ◌-◌, ◌^◌, ◌≤◌, ℕ, false, is_some, Bool, List, Option, IfOk, IsErrOf, IsSome, OnOk};
 ghost use Rattle.fw_bag.specs.Keyed.{sorted_recs};
 ghost use Rattle.fw_keep.specs.Stored.{Records};
+ghost use Rattle.fw_flow.specs.declared.step.Step.TheVariants.{Recover};
+ghost use Rattle.fw_running.specs.Steps.{MayCallByItself, MayCallStore};
 ghost use Rattle.fw_engine.specs.declared.engine.Engine.{Engine as EngineOf};
 ghost use Rattle.fw_engine.specs.Engine.{flow_of, StandsFor};
 ghost use Rattle.fw_session.specs.Session.{StepGoesOn};
@@ -14,10 +16,12 @@ use fw_engine::Engine;
 use fw_flow::{NodeId, Step};
 use fw_running::{EngineFault, Stepped};
 
-/// A session: an engine with its store, which takes batches while it runs. What was done in it is a story; what it keeps of that is
-/// there at a next start too, if there is one.
+/// A session: an engine with its store, which takes batches while it runs. What was done in it is a story.
+///
+/// The words `lasts`, `at` and `keeps` are each session's own. The clauses here lead from one story to the next. At which story a session
+/// begins, its `open` says; what a start behind its end finds, a law of its crate.
 pub trait Living {
-    /// Whether it is kept beyond its end: only then a store may fail in what keeps it.
+    /// Whether its store may fail in a call that takes no step. Where it is false, none does.
     ghost lasts: { Bool };
 
     /// Its engine.
@@ -29,8 +33,9 @@ pub trait Living {
     /// It is at this story: this is what was done in it.
     ghost at: { Self → Story → Type 0 };
 
-    /// It keeps this story: a start behind its end goes on from there.
-    ghost keeps: { Self → Story → Type 0 };
+    /// What a start behind its end goes on from, by the laws of the session: this story, and these lines of what the last line showed.
+    /// Of a session that ends with its store it says no more than `at`.
+    ghost keeps: { Self → Story → List ℕ → Type 0 };
 
     /// Its engine, to be looked at.
     fn engine(&self) -> &Engine
@@ -51,14 +56,15 @@ pub trait Living {
     ///
     /// # Errors
     ///
-    /// `NotFed` where the source is not open, or 2^20 - 1 batches came to it. `StoreFault` where the store fails that has to keep the
-    /// batch. `NoMemory` where memory is refused, now or earlier.
+    /// `NotFed` where the source is not open, or 2^20 - 1 batches came to it: it is where it was. `StoreFault` where the store fails that
+    /// has to keep the batch. `NoMemory` where memory is refused, now or earlier.
     fn feed(&mut self, source: NodeId, recs: &[Rec]) -> Result<u64, LifeFault>
         ensures fed { (story : Story) → at self.old story
             → IfOk result (λ epoch. (epoch ≡ came_in_story (flow_of (engine_of self.old)) story source)
             × at self.new (after_feed source (sorted_recs recs.now) story)) }
         ensures not_fed { (story : Story) → at self.old story → (IsErrOf result LifeFault.NotFed
             ↔ (story.now.opened source ≡ false) ⊎ (2 ^ 20 - 1 ≤ came_in_story (flow_of (engine_of self.old)) story source)) }
+        ensures stays { (story : Story) → at self.old story → IsErrOf result LifeFault.NotFed → at self.new story }
         ensures flow { flow_of (engine_of self.new) ≡ flow_of (engine_of self.old) }
         ensures store { lasts ≡ false → IsErrOf result LifeFault.StoreFault → ⊥ }
         ensures told_before { IsSome (records self.new) → IsSome (records self.old) };
@@ -67,12 +73,13 @@ pub trait Living {
     ///
     /// # Errors
     ///
-    /// `NotFed` where the source is not open; the others as by `feed`.
+    /// `NotFed` where the source is not open: it is where it was; the others as by `feed`.
     fn close(&mut self, source: NodeId) -> Result<u64, LifeFault>
         ensures closed { (story : Story) → at self.old story
             → IfOk result (λ epoch. (epoch ≡ came_in_story (flow_of (engine_of self.old)) story source)
             × at self.new (after_close source story)) }
         ensures not_fed { (story : Story) → at self.old story → (IsErrOf result LifeFault.NotFed ↔ story.now.opened source ≡ false) }
+        ensures stays { (story : Story) → at self.old story → IsErrOf result LifeFault.NotFed → at self.new story }
         ensures flow { flow_of (engine_of self.new) ≡ flow_of (engine_of self.old) }
         ensures store { lasts ≡ false → IsErrOf result LifeFault.StoreFault → ⊥ }
         ensures told_before { IsSome (records self.new) → IsSome (records self.old) };
@@ -82,10 +89,12 @@ pub trait Living {
     ///
     /// # Errors
     ///
-    /// `StoreFault` where the store fails: it is where it was, but behind a collection. `Damaged` where a recovery reads bytes that spell
-    /// no record: it is where it was. `NoMemory` where memory is refused, now or earlier.
+    /// `StoreFault` where the store fails that the step has to call: it is where it was, but behind a collection. `Damaged` where a
+    /// recovery reads bytes that spell no record: it is where it was. `NoMemory` where memory is refused, now or earlier.
     fn step(&mut self, step: &Step) -> Result<Stepped, EngineFault>
         ensures goes_on { StepGoesOn (flow_of (engine_of self.old)) step.now result (records self.new) (at self.old) (at self.new) }
+        ensures calls { IsErrOf result EngineFault.StoreFault → MayCallStore (flow_of (engine_of self.old)) step.now }
+        ensures tells { step.now ≢ Recover → is_some (records self.new) ≡ is_some (records self.old) }
         ensures flow { flow_of (engine_of self.new) ≡ flow_of (engine_of self.old) }
         ensures told_before { IsSome (records self.new) → IsSome (records self.old) };
 
@@ -93,16 +102,18 @@ pub trait Living {
     /// those of `step`; no record is damaged.
     fn auto_step(&mut self) -> Result<Stepped, EngineFault>
         ensures goes_on { AutoGoesOn (flow_of (engine_of self.old)) result (at self.old) (at self.new) }
+        ensures calls { IsErrOf result EngineFault.StoreFault → MayCallByItself (flow_of (engine_of self.old)) }
+        ensures tells { is_some (records self.new) ≡ is_some (records self.old) }
         ensures flow { flow_of (engine_of self.new) ≡ flow_of (engine_of self.old) }
         ensures told_before { IsSome (records self.new) → IsSome (records self.old) };
 
-    /// Keeps what was done, at the end of a line, before its answer is told; these are the lines of what its steps showed.
+    /// Keeps what was done, at the end of a line, before its answer is told, and these lines, of what its steps showed.
     ///
     /// # Errors
     ///
     /// `StoreFault` where the store fails. `NoMemory` where memory is refused, now or earlier.
     fn keep_line(&mut self, lines: &[u8]) -> Result<(), LifeFault>
-        ensures kept { (story : Story) → at self.old story → OnOk result (at self.new story × keeps self.new story) }
+        ensures kept { (story : Story) → at self.old story → OnOk result (at self.new story × keeps self.new story lines.now) }
         ensures flow { flow_of (engine_of self.new) ≡ flow_of (engine_of self.old) }
         ensures store { lasts ≡ false → IsErrOf result LifeFault.StoreFault → ⊥ }
         ensures told_before { IsSome (records self.new) → IsSome (records self.old) };

@@ -23,7 +23,7 @@ impl<K: Store + Drop> Living for Session<K> {
 
     ghost at = { λ session story. IsAt session.engine (K.view session.store).records session.arrivals story };
 
-    ghost keeps = { λ session story. IsAt session.engine (K.view session.store).records session.arrivals story };
+    ghost keeps = { λ session story lines. IsAt session.engine (K.view session.store).records session.arrivals story };
 
     fn engine(&self) -> &Engine {
         self.engine()

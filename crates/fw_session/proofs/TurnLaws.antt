@@ -98,9 +98,9 @@ at-stepped old new before after arrivals story at same step effect next back lea
     }
 
 -- what is known of a session before and after a step
-record Around (old new : Engine) (before after : Option Records) (arrivals : Arrivals) (story : Story) : Type 0 where
-  at : IsAt old before arrivals story
-  same : flow_of new ≡ flow_of old
+pub record Around (old new : Engine) (before after : Option Records) (arrivals : Arrivals) (story : Story) : Type 0 where
+  pub at : IsAt old before arrivals story
+  pub same : flow_of new ≡ flow_of old
 
 by-outcome : (old new : Engine) (before after : Option Records) (arrivals : Arrivals) (story : Story)
     → Around old new before after arrivals story → (step : Step) → HoldsBack story.now.opened (system_now (flow_of old) story) story.now.state step
@@ -117,7 +117,7 @@ by-outcome old new before after arrivals story a step back idle f = (
   at-stays old new before after arrivals story a.at a.same (subst (StandsFor (system_now (flow_of old) story) new after) f.steps.1 f.stands),
 )
 
-by-result : (old new : Engine) (before after : Option Records) (arrivals : Arrivals) (story : Story)
+pub by-result : (old new : Engine) (before after : Option Records) (arrivals : Arrivals) (story : Story)
     → Around old new before after arrivals story → (step : Step) → HoldsBack story.now.opened (system_now (flow_of old) story) story.now.state step
     → (result : Result Stepped EngineFault)
     → IfOk result (λ stepped. Follows (system_now (flow_of old) story) story.now.state step (outcome_of stepped) new.running after)
@@ -126,7 +126,7 @@ by-result old new before after arrivals story a step back (Ok stepped) f =
     by-outcome old new before after arrivals story a step back (outcome_of stepped) f
 by-result old new before after arrivals story a step back (Err e) f = tt
 
-shown : (flow : Dataflow) (story : Story) → IsStory flow story → (step : Step)
+pub shown : (flow : Dataflow) (story : Story) → IsStory flow story → (step : Step)
     → HoldsBack story.now.opened (system_now flow story) story.now.state step → (result : Result Stepped EngineFault)
     → IfOk result (λ stepped. HasOutcome (system_now flow story) story.now.state step (outcome_of stepped))
     → IfOk result (λ stepped. GoesOnTo flow step (outcome_of stepped) story (IsStory flow))
@@ -143,7 +143,7 @@ left-by : (old new : Engine) (before after : Option Records) (arrivals : Arrival
     → IsLeftAt (flow_of old) step story (IsAt new after arrivals)
 left-by old new before after arrivals story a Collect left =
     (left.1, by-outcome old new before after arrivals story a Collect tt left.1 (record { next = left.0; steps = left.2; stands = left.3 }))
-left-by old new before after arrivals story a step left = at-stays old new before after arrivals story a.at a.same left.1
+left-by old new before after arrivals story a step left = (left.0, at-stays old new before after arrivals story a.at a.same left.1)
 
 pub step-goes_on : {K : Type 0} (view : K → StoreView) (old : Engine) (before : K) (step : Step) (result : Result Stepped EngineFault) (new : Engine)
     (after : K) (arrivals : Arrivals) → EngineAnswers view old before step result new after
@@ -258,8 +258,10 @@ first-goes_on view old before result new after arrivals answers =
       ok = λ story at.
           first-result old new b d arrivals story (record { at = at; same = answers.flow }) result
           (answers.ok (system_now (flow_of old) story) story.now.state at.stands);
-      faulted = λ story at e.
-          at-stays old new b d arrivals story at answers.flow (answers.faulted (system_now (flow_of old) story) story.now.state at.stands e);
+      faulted = λ story at e. (
+        answers.asks (system_now (flow_of old) story) story.now.state at.stands e,
+        at-stays old new b d arrivals story at answers.flow (answers.faulted (system_now (flow_of old) story) story.now.state at.stands e),
+      );
       unharmed = answers.unharmed;
     }
 
@@ -290,7 +292,7 @@ not-refused true (Err fault.NoMemory) stays e = absurd (false≢true (sym e))
 
 left-some : (flow : Dataflow) (step : Step) (story : Story) (P : Story → Type 0) → IsLeftAt flow step story P → (next : Story) × P next
 left-some flow Collect story P left = (left.1.0, left.1.2)
-left-some flow step story P left = (story, left)
+left-some flow step story P left = (story, left.1)
 
 pub real-step : (flow : Dataflow) (step : Step) (result : Result Stepped EngineFault) (before after : Option Records) (Before After : Story → Type 0)
     (was now : Bool) → StepGoesOn flow step result after Before After → (IsSome after → IsSome before) → now ≡ is_refusal result
@@ -321,7 +323,7 @@ real-first flow arrivals (Ok stepped) before after Before After was now g told r
     first-some flow arrivals (outcome_of stepped) r.0 After (g.ok r.0 r.1)
 real-first flow arrivals (Err fault.StoreFault) before after Before After was now g told refuses stays real live some =
     let r = real (not-refused was (Err fault.StoreFault) stays refl) (told some) in
-    (r.0, g.faulted r.0 r.1 refl)
+    (r.0, (g.faulted r.0 r.1 refl).1)
 real-first flow arrivals (Err (fault.Damaged id)) before after Before After was now g told refuses stays real live some = absurd (g.unharmed id refl)
 real-first flow arrivals (Err fault.NoMemory) before after Before After was now g told refuses stays real live some =
     absurd (false≢true (sym live ∙ refuses))

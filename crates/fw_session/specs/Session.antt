@@ -14,7 +14,7 @@ use Rattle.fw_running.specs.declared.fault.EngineFault.TheVariants as fault
 use Rattle.fw_running.specs.declared.stepped.Stepped.{Stepped}
 use Rattle.fw_running.specs.declared.stepped.Stepped.TheVariants.{Idle}
 use Rattle.fw_running.specs.Fed.{auto_steps_within}
-use Rattle.fw_running.specs.Steps.{MayCallByItself, MayCallStore, Trusts, outcome_of}
+use Rattle.fw_running.specs.Steps.{FirstMayCall, MayCallByItself, MayCallStore, NeedsStore, Trusts, outcome_of}
 use Rattle.fw_feeding.specs.OpenRuns.{HoldsBack}
 use Rattle.fw_engine.specs.declared.engine.Engine.{Engine}
 use Rattle.fw_engine.specs.Engine.{flow_of, was_refused, StandsFor}
@@ -68,10 +68,10 @@ GoesOnBy flow step idle story next =
 abbrev pub GoesOnTo : Dataflow → Step → Outcome → Story → (Story → Type 0) → Type 0
 GoesOnTo flow step outcome story P = (next : Story) × GoesOnBy flow step outcome story next × P next
 
--- What a fault of the store leaves: the story, but that a collection, which sweeps last, may be done.
+-- What a fault of the store leaves: the story, at which the step needs the store, but that a collection, which sweeps last, may be done.
 abbrev pub IsLeftAt : Dataflow → Step → Story → (Story → Type 0) → Type 0
 IsLeftAt flow Collect story P = (outcome : Outcome) × GoesOnTo flow Collect outcome story P
-IsLeftAt flow step story P = P story
+IsLeftAt flow step story P = NeedsStore (system_now flow story) story.now.state step × P story
 
 -- What a step of a session answers, by the stories at which it is before and after.
 pub record StepGoesOn (flow : Dataflow) (step : Step) (result : Result Stepped EngineFault) (after : Option Records) (Before After : Story → Type 0)
@@ -93,10 +93,11 @@ GoesOnFirst flow arrivals (did effect) story P =
 GoesOnFirst flow arrivals idle story P =
     P story × AreIdle (system_now flow story) story.now.state (auto_steps_within flow (came_in arrivals) story.now.state)
 
--- What the first step that is enabled answers.
+-- What the first step that is enabled answers: it is one that asks for a write, where the store fails, and no record is damaged.
 pub record FirstGoesOn (flow : Dataflow) (arrivals : Arrivals) (result : Result Stepped EngineFault) (Before After : Story → Type 0) : Type 0 where
   pub ok : (story : Story) → Before story → IfOk result (λ stepped. GoesOnFirst flow arrivals (outcome_of stepped) story After)
-  pub faulted : (story : Story) → Before story → IsErrOf result fault.StoreFault → After story
+  pub faulted : (story : Story) → Before story → IsErrOf result fault.StoreFault
+      → FirstMayCall (system_now flow story) story.now.state × After story
   pub unharmed : (id : ℕ) → IsErrOf result (fault.Damaged id) → ⊥
 
 -- ---- what a step leaves of the store, whatever the session stands for

@@ -12,8 +12,10 @@ const MOST: u64 = (1 << 20) - 1;
 /// Of each node whether it is a source that is open, and how many batches came.
 #[derive(Drop)]
 pub struct Arrivals {
-    pub(crate) opened: Vec<bool>,
-    pub(crate) came: Vec<u64>,
+    /// Whether it is a source that is open.
+    pub opened: Vec<bool>,
+    /// How many batches came, with the empty one with which it was closed.
+    pub came: Vec<u64>,
 }
 
 impl Arrivals {
@@ -48,7 +50,7 @@ impl Arrivals {
     }
 
     /// The epoch of the next batch of a source: how many came. The errors are `Closed` and `Full`.
-    pub(crate) fn next_epoch(&self, source: NodeId) -> Result<u64, FeedFault>
+    pub fn next_epoch(&self, source: NodeId) -> Result<u64, FeedFault>
         ensures epoch { IfOk result (λ epoch. epoch ≡ came_in self.now source) }
         ensures room { IfOk result (λ epoch. epoch < 2 ^ 20 - 1) }
         ensures open { IfOk result (λ epoch. is_open_in self.now source ≡ true) }
@@ -69,7 +71,7 @@ impl Arrivals {
     }
 
     /// One batch more came to a node.
-    pub(crate) fn count(&mut self, node: NodeId)
+    pub fn count(&mut self, node: NodeId)
         ensures came { self.new.came.items ≡ slice_set self.old.came.items node (min (came_in self.old node + 1) (2 ^ 64 - 1)) }
         ensures opened { self.new.opened ≡ self.old.opened }
     {
@@ -79,7 +81,7 @@ impl Arrivals {
     }
 
     /// The source is not open any more, and the batch of this epoch came to it. The error is `Closed`.
-    pub(crate) fn close(&mut self, source: NodeId) -> Result<u64, FeedFault>
+    pub fn close(&mut self, source: NodeId) -> Result<u64, FeedFault>
         ensures epoch { IfOk result (λ epoch. epoch ≡ came_in self.old source) }
         ensures open { IfOk result (λ epoch. is_open_in self.old source ≡ true) }
         ensures opened { IfOk result (λ epoch. self.new.opened.items ≡ slice_set self.old.opened.items source false) }

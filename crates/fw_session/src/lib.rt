@@ -14,4 +14,4 @@ mod session;
 
 pub use arrivals::Arrivals;
 pub use fault::FeedFault;
-pub use session::Session;
+pub use session::{Session, feed_engine, is_held_back};

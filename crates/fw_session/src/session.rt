@@ -196,8 +196,8 @@ fn open_engine(alloc: Global, flow: Flow) -> Result<Engine, AllocError>
     Engine::new(alloc, flow, &batches)
 }
 
-// The source is fed the batch, and it is counted: its epoch.
-fn feed_engine(
+/// The source is fed the batch, and it is counted: its epoch. The errors are those of `Session::feed`.
+pub fn feed_engine(
     engine: &mut Engine,
     arrivals: &mut Arrivals,
     source: NodeId,
@@ -229,8 +229,8 @@ fn feed_engine(
     Ok(epoch)
 }
 
-// Whether the step is the injection of the last batch of a source that is open.
-fn is_held_back(engine: &Engine, arrivals: &Arrivals, step: &Step) -> bool
+/// Whether the step is the injection of the last batch of a source that is open.
+pub fn is_held_back(engine: &Engine, arrivals: &Arrivals, step: &Step) -> bool
     ensures held { (records : Option Records) (story : Story) → IsAt engine.now records arrivals.now story → IsTrue result
         → HoldsBack story.now.opened (system_now (flow_of engine.now) story) story.now.state step.now → ⊥ }
     ensures free { (records : Option Records) (story : Story) → IsAt engine.now records arrivals.now story → result ≡ false

@@ -19,13 +19,13 @@ returns-in-Ok g c = λ flow is none at.
     let before : LivePoint = record {
       counts = old.counts;
       records = (K old.session.store).records;
-      At = λ s. IsAt old.session.engine (K old.session.store).records old.session.arrivals s
+      At = λ s kept. IsAt old.session.engine (K old.session.store).records old.session.arrivals s
           × IsAt old.session.engine (K old.session.store).records old.session.arrivals s;
     } in
     let after : LivePoint = record {
       counts = new.counts;
       records = (K new.session.store).records;
-      At = λ s. IsAt new.session.engine (K new.session.store).records new.session.arrivals s
+      At = λ s kept. IsAt new.session.engine (K new.session.store).records new.session.arrivals s
           × IsAt new.session.engine (K new.session.store).records new.session.arrivals s;
     } in
     let first = view c.args.out.now in
@@ -33,7 +33,7 @@ returns-in-Ok g c = λ flow is none at.
     let given = g.L.LineSource.given c.args.input.now in
     let gives = g.L.LineSource.given input in
     flow-served K old.rests flow before after new.session.store given gives (g.L.LineSource.ended input) c.end.result first mid (view c.end.new.out) none
-    (at, at) refl (λ s there. subst (λ d. IsStory d s) (c.serve.ensures.flow ∙ is) there.0.of_story)
+    (at, at) refl (λ s kept there. subst (λ d. IsStory d s) (c.serve.ensures.flow ∙ is) there.0.of_story)
     (subst (λ d. Serves old.rests d before after given gives (λ text. IsWritten text first mid)) is c.in-Ok.ensures.served) c.in-Ok.ensures.ended
     (subst (λ k. EndsWhole c.end.result → (c.end.result ≡ status_by k) × IsWritten (counts_line k) mid (view c.end.new.out)) c.counts.ensures c.end.ensures.whole)
     (subst (λ k. EndsBefore c.end.result → IsLineCutAt c.end.result (counts_line k) mid (view c.end.new.out)) c.counts.ensures c.end.ensures.part) c.end.ensures.begun c.end.ensures.no_root
@@ -48,7 +48,7 @@ returns g c = λ flow is none at.
     let before : LivePoint = record {
       counts = old.counts;
       records = (K old.session.store).records;
-      At = λ s. IsAt old.session.engine (K old.session.store).records old.session.arrivals s
+      At = λ s kept. IsAt old.session.engine (K old.session.store).records old.session.arrivals s
           × IsAt old.session.engine (K old.session.store).records old.session.arrivals s;
     } in
     let first = view c.args.out.now in

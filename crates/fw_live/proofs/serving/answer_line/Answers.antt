@@ -12,9 +12,9 @@ returns-clause-answered g c = λ given.
     let new = c.answer.new.self in
     let flow = flow_of (g.S.Living.engine_of old.session) in
     serves-one old.rests flow
-    (record { counts = old.counts; records = g.S.Living.records old.session; At = λ story. g.S.Living.at old.session story × g.S.Living.keeps old.session story })
-    (record { counts = new.counts; records = g.S.Living.records new.session; At = λ story. g.S.Living.at new.session story × g.S.Living.keeps new.session story })
+    (record { counts = old.counts; records = g.S.Living.records old.session; At = λ story kept. g.S.Living.at old.session story × g.S.Living.keeps old.session story kept })
+    (record { counts = new.counts; records = g.S.Living.records new.session; At = λ story kept. g.S.Living.at new.session story × g.S.Living.keeps new.session story kept })
     (Some c.args.line.now) given (with_line_given (Some c.args.line.now) given) c.answer.new.into.items refl
-    (λ story there relied. subst (λ bytes. HasAnswered old.rests flow story (asked_for flow (Some c.args.line.now)) old.counts new.counts bytes c.answer.new.into.items
-    (λ s. g.S.Living.at new.session s × g.S.Living.keeps new.session s)) c.new-answer.ensures.items
-    (c.in_ok-answer.ensures.answered story there.0 there.1 relied))
+    (λ story kept there relied. subst (λ bytes. HasAnswered old.rests flow story kept (asked_for flow (Some c.args.line.now)) old.counts new.counts bytes c.answer.new.into.items
+    (λ s lines. g.S.Living.at new.session s × g.S.Living.keeps new.session s lines)) c.new-answer.ensures.items
+    (c.in_ok-answer.ensures.answered story kept there.0 there.1 relied))

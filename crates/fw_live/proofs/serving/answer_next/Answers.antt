@@ -15,8 +15,8 @@ returns-in-Line-clause-answered g c =
     let gave : given after ≡ with_line_given (Some c.deref.result.now) (given c.args.input.now) =
     subst (λ n. given after ≡ gives_after (Ok n) c.next_line.new.line.items (given c.args.input.now)) c.in-Line.is c.in_ok-next.ensures.given ∙ ap (λ bytes. with_line_given (Some bytes) (given c.args.input.now)) (sym c.deref.ensures.value) in
     subst (λ gives. IfOk c.answer_line.result (λ answer. IfSome answer (λ text. Serves old.rests (flow_of (g.S.Living.engine_of old.session))
-    (record { counts = old.counts; records = g.S.Living.records old.session; At = λ story. g.S.Living.at old.session story × g.S.Living.keeps old.session story })
-    (record { counts = new.counts; records = g.S.Living.records new.session; At = λ story. g.S.Living.at new.session story × g.S.Living.keeps new.session story })
+    (record { counts = old.counts; records = g.S.Living.records old.session; At = λ story kept. g.S.Living.at old.session story × g.S.Living.keeps old.session story kept })
+    (record { counts = new.counts; records = g.S.Living.records new.session; At = λ story kept. g.S.Living.at new.session story × g.S.Living.keeps new.session story kept })
     (given c.args.input.now) gives (λ bytes. text.items ≡ bytes)))) (sym gave) (c.answer_line.ensures.answered (given c.args.input.now))
 
 pub returns-in-Line-clause-unanswered : goal.returns-in-Line-clause-unanswered
@@ -36,8 +36,8 @@ returns-in-TooLong-clause-answered g c =
     let gave : given after ≡ with_line_given (None) (given c.args.input.now) =
     subst (λ n. given after ≡ gives_after (Ok n) c.next_line.new.line.items (given c.args.input.now)) c.in-TooLong.is c.in_ok-next.ensures.given in
     subst (λ gives. IfOk c.answer_long.result (λ answer. IfSome answer (λ text. Serves old.rests (flow_of (g.S.Living.engine_of old.session))
-    (record { counts = old.counts; records = g.S.Living.records old.session; At = λ story. g.S.Living.at old.session story × g.S.Living.keeps old.session story })
-    (record { counts = new.counts; records = g.S.Living.records new.session; At = λ story. g.S.Living.at new.session story × g.S.Living.keeps new.session story })
+    (record { counts = old.counts; records = g.S.Living.records old.session; At = λ story kept. g.S.Living.at old.session story × g.S.Living.keeps old.session story kept })
+    (record { counts = new.counts; records = g.S.Living.records new.session; At = λ story kept. g.S.Living.at new.session story × g.S.Living.keeps new.session story kept })
     (given c.args.input.now) gives (λ bytes. text.items ≡ bytes)))) (sym gave) (c.answer_long.ensures.answered (given c.args.input.now))
 
 pub returns-in-TooLong-clause-unanswered : goal.returns-in-TooLong-clause-unanswered

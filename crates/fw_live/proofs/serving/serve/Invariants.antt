@@ -15,12 +15,12 @@ invariant-loop g l = record {
       (record {
         counts = l.fn.live.counts;
         records = g.S.Living.records l.fn.live.session;
-        At = λ story. g.S.Living.at l.fn.live.session story × g.S.Living.keeps l.fn.live.session story;
+        At = λ story kept. g.S.Living.at l.fn.live.session story × g.S.Living.keeps l.fn.live.session story kept;
       })
       (record {
         counts = l.live.counts;
         records = g.S.Living.records l.live.session;
-        At = λ story. g.S.Living.at l.live.session story × g.S.Living.keeps l.live.session story;
+        At = λ story kept. g.S.Living.at l.live.session story × g.S.Living.keeps l.live.session story kept;
       })
       (g.L.LineSource.given l.fn.input) (g.L.LineSource.given l.input) (λ text. IsWritten text (g.O.Sink.view l.fn.out) (g.O.Sink.view l.out));
 }

@@ -42,7 +42,7 @@ returns-in_err-stepped-clause-ends g c = λ story at.
     rw (p.1, p.2) (auto-fails (flow_of (g.S.Living.engine_of old)) (flow_of (g.S.Living.engine_of now)) story c.loop.counter c.args.most c.in_err-stepped.field-0.0
     (g.S.Living.at now) (g.S.Living.at new)
     (record { bytes = c.args.into.now.items; counts = c.args.counts.now }) (record { bytes = c.loop.into.items; counts = c.loop.counts })
-    (c.loop.invariant.taken story at) c.in_err-stepped.ensures.goes_on c.loop-test.true)
+    c.loop.invariant.flow (c.loop.invariant.taken story at) c.in_err-stepped.ensures.goes_on c.loop-test.true)
 
 pub returns-then-is_idle-clause-ends : goal.returns-then-is_idle-clause-ends
 returns-then-is_idle-clause-ends g c = λ story at.

@@ -1,11 +1,11 @@
-use Rattle.std.proofs.Common.{List, subst}
+use Rattle.std.proofs.Common.{List, subst, ◌∙◌}
 use Rattle.fw_schedule.specs.declared.item.Item.{Item}
 use Rattle.fw_engine.specs.Engine.{flow_of}
 use Rattle.fw_live.specs.Answers.{after_change, rest_item}
 use Rattle.fw_live.specs.Reading.{change_in, first_item, read_in}
 use Rattle.fw_live.specs.Relies.{EndsSo, GoesOnPrinting, IsMaybeReliedOn}
 use Rattle.fw_live.specs.Taken.{EndsBoth}
-use Rattle.fw_live.proofs.AnsweredLaws.{has-turned, turned-at}
+use Rattle.fw_live.proofs.AnsweredLaws.{has-turned}
 use Rattle.fw_live.proofs.TakingLaws.{relied-maybe}
 use Rattle.fw_live.proofs.turn.turn.Goals as goal
 
@@ -23,11 +23,12 @@ returns-clause-turned g c = λ story at relied.
     let printed = c.take_turn-taken.new.into.items in
     let before = c.in_ok-begin.ensures.begun story at in
     let there = relied-maybe (g.S.Living.records mid) (g.S.Living.records new) (first_item asked.items) c.keep.ensures.told_before relied in
-    turned-at c.args.rests flow story (read_in asked) c.args.counts.now c.end.new.counts c.args.into.now.items c.end.new.into.items (at_in mid)
-    (λ s. at_in new s × g.S.Living.keeps new s)
-    (has-turned c.args.rests flow story (read_in asked) c.take_turn-taken.result c.args.counts.now c.count_turn.new.self
-    c.end.new.counts c.new-steps.result c.take_turn-taken.new.counts c.args.into.now.items told printed c.end.new.into.items (at_in mid) c.new-steps.ensures
-    before.1
+    has-turned c.args.rests flow story (read_in asked) c.take_turn-taken.result c.args.counts.now c.count_turn.new.self
+    c.end.new.counts c.new-steps.result c.take_turn-taken.new.counts c.args.into.now.items told printed c.end.new.into.items (at_in mid)
+    (λ s lines. at_in new s × g.S.Living.keeps new s lines)
+    (λ s shown e a. subst (λ lines. at_in new s × g.S.Living.keeps new s lines)
+    (c.behind.ensures told shown (c.deref.ensures.value ∙ e) (c.len-begun.ensures ∙ c.begin.new.into.ok.0)) (c.in_ok-keep.ensures.kept s a))
+    c.new-steps.ensures before.1
     (subst (λ d. EndsSo (λ ending. GoesOnPrinting d (EndsBoth d next (first_item asked.items) (rest_item c.args.rests) ending)
     (record { bytes = told; counts = c.new-steps.result }) (record { bytes = printed; counts = c.take_turn-taken.new.counts }) (at_in mid)) c.take_turn-taken.result)
     c.begin.ensures.flow
@@ -37,5 +38,4 @@ returns-clause-turned g c = λ story at relied.
     (record { bytes = told; counts = c.new-steps.result }) (record { bytes = printed; counts = c.take_turn-taken.new.counts }) (at_in mid))
     c.take_turn-taken.result)
     c.as_slice-items.ensures (λ r. c.take_turn-taken.ensures.ends next before.0 r) there))
-    c.count_turn.ensures c.in_ok-end.ensures.text c.in_ok-end.ensures.counted c.in_ok-end.ensures.no_memory)
-    (λ s a. c.in_ok-keep.ensures.kept s a)
+    c.count_turn.ensures c.in_ok-end.ensures.text c.in_ok-end.ensures.counted c.in_ok-end.ensures.no_memory

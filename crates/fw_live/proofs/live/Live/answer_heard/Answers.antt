@@ -6,15 +6,15 @@ use Rattle.fw_live.proofs.AnsweredLaws.{allowed-relied, answer-refused, answer-t
 use Rattle.fw_live.proofs.live.Live.answer_heard.Goals as goal
 
 pub returns-in_ok-write_refused-in-Err-clause-answered : goal.returns-in_ok-write_refused-in-Err-clause-answered
-returns-in_ok-write_refused-in-Err-clause-answered g c = λ story at keeps relied.
+returns-in_ok-write_refused-in-Err-clause-answered g c = λ story kept at keeps relied.
     let live = c.args.self.now in
     let here = live.session in
-    answer-refused live.rests (flow_of (g.S.Living.engine_of here)) story (heard_in c.args.heard) c.in-Err.rule live.counts c.count_line.new.self
-    c.args.into.now.items c.write_refused.new.into.items (λ s. g.S.Living.at here s × g.S.Living.keeps here s) (at, keeps)
+    answer-refused live.rests (flow_of (g.S.Living.engine_of here)) story kept (heard_in c.args.heard) c.in-Err.rule live.counts c.count_line.new.self
+    c.args.into.now.items c.write_refused.new.into.items (λ s lines. g.S.Living.at here s × g.S.Living.keeps here s lines) (at, keeps)
     (ap heard_in (sym c.in-Err.is) ∙ c.allowed.ensures story at) c.count_line.ensures c.in_ok-write_refused-in-Err.ensures
 
 pub returns-in-Ok-clause-answered : goal.returns-in-Ok-clause-answered
-returns-in-Ok-clause-answered g c = λ story at keeps relied.
+returns-in-Ok-clause-answered g c = λ story kept at keeps relied.
     let live = c.args.self.now in
     let here = live.session in
     let new = c.turn.new.session in
@@ -23,5 +23,5 @@ returns-in-Ok-clause-answered g c = λ story at keeps relied.
     if-if c.turn.result _ _
     (c.turn.ensures.turned story at (allowed-relied story.now.opened (came_in_story flow story) (heard_in c.args.heard) (read_in c.in-Ok.asked)
     (g.S.Living.records new) heard relied))
-    (λ has. answer-turned live.rests flow story (heard_in c.args.heard) (read_in c.in-Ok.asked) live.counts c.count_line.new.self c.turn.new.counts
-    c.args.into.now.items c.turn.new.into.items (λ s. g.S.Living.at new s × g.S.Living.keeps new s) heard c.count_line.ensures has)
+    (λ has. answer-turned live.rests flow story kept (heard_in c.args.heard) (read_in c.in-Ok.asked) live.counts c.count_line.new.self c.turn.new.counts
+    c.args.into.now.items c.turn.new.into.items (λ s lines. g.S.Living.at new s × g.S.Living.keeps new s lines) heard c.count_line.ensures has)

@@ -9,3 +9,9 @@ returns-clause-goes_on g c =
     let view = g.K.Store.view in
     auto-on old.engine (view old.store).records old.arrivals c.auto_step.result (IsAt new.engine (view new.store).records new.arrivals)
     c.auto_step.ensures.goes_on
+
+pub returns-clause-calls : goal.returns-clause-calls
+returns-clause-calls g c = c.auto_step.ensures.leaves.calls
+
+pub returns-clause-tells : goal.returns-clause-tells
+returns-clause-tells g c = c.auto_step.ensures.leaves.tells

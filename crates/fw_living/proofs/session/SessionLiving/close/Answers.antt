@@ -4,7 +4,7 @@ use Rattle.fw_engine.specs.Engine.{flow_of}
 use Rattle.fw_session.specs.Session.{IsAt, came_in, is_open_in}
 use Rattle.fw_session.specs.Story.{after_close}
 use Rattle.fw_living.specs.Life.{came_in_story}
-use Rattle.fw_living.proofs.LivingLaws.{fed-life, never-store, not_closed-life}
+use Rattle.fw_living.proofs.LivingLaws.{at-same, fed-life, is-err, never-store, not_closed-life}
 use Rattle.fw_living.proofs.session.SessionLiving.close.Goals as goal
 
 pub returns-clause-closed : goal.returns-clause-closed
@@ -21,6 +21,15 @@ returns-clause-not_fed g c = λ story at.
     let s = c.args.source in
     not_closed-life c.close.result c.life.result s (is_open_in old.arrivals s) (story.now.opened s) c.life.ensures c.close.ensures.closed
     c.close.ensures.only (at.opens s)
+
+pub returns-clause-stays : goal.returns-clause-stays
+returns-clause-stays g c = λ story at refused.
+    let old = c.args.self.now in
+    let new = c.close.new.self in
+    let view = g.K.Store.view in
+    let err = is-err c.close.result c.life.result c.life.ensures refused in
+    at-same old.engine new.engine (view old.store).records (view new.store).records old.arrivals new.arrivals story at
+    c.close.ensures.engine (ap (λ store. (view store).records) c.close.ensures.store) (c.close.ensures.came err)
 
 pub returns-clause-flow : goal.returns-clause-flow
 returns-clause-flow g c = ap flow_of c.close.ensures.engine

@@ -4,6 +4,8 @@
 //! terminal the causes of the store's faults are told behind the line of the status.
 #![tactic(auto)]
 
+mod live;
+
 ghost use Rattle.std.specs.Prelude.{◌≡◌};
 ghost use Rattle.std.specs.FinMap as map;
 ghost use Rattle.std.specs.Option.{ForSome};
@@ -15,10 +17,12 @@ use fw_disk::{DiskCause, DiskStore};
 use fw_flow::Flow;
 use fw_flow_text::FLOW_LIMIT;
 use fw_lines::INPUTS_LIMIT;
+use fw_live::is_live;
 use fw_outside::{Sink, Store};
-use fw_run::{Status, falkirk};
+use fw_run::{Status, falkirk, tell};
 use fw_show::{ShowFault, show};
 use fw_telling::{ReadFolder, TellingSink, read_texts};
+use live::answer_lines;
 use std::alloc::{AllocError, Global};
 use std::io::{ErrorKind, IsTerminal};
 use std::process::ExitCode;
@@ -85,6 +89,7 @@ fn run_in<N: Sink>(rt: &HostRuntime, name: String, words: &[&str], notes: &mut N
     match words {
         ["show"] => show_files(rt, &store, None, notes),
         ["show", flow] if is_name(flow) => show_by(rt, &store, flow, notes),
+        words if is_live(words) => run_live(rt, words, store, notes),
         words => run_command(rt, words, &mut store, notes),
     }
 }
@@ -111,12 +116,12 @@ fn run_choice<N: Sink>(rt: &HostRuntime, words: &[&str], notes: &mut N) -> u8 {
     ended.number
 }
 
-// The store of a folder: a held run takes the records that are there. Where it tells its records, there are none.
+// The store of a folder: a held run, and a session, take the records that are there. Where it tells its records, there are none.
 fn store_for<'a>(rt: &'a HostRuntime, name: String, words: &[&str]) -> DiskStore<'a, HostRuntime>
     ensures { ForSome (⟦<DiskStore<'a, HostRuntime> as Store>⟧.view result).records (λ held. held ≡ map.empty) }
 {
     match words {
-        ["hold", ..] => DiskStore::reopen(rt.alloc(), rt, name),
+        ["hold" | "live", ..] => DiskStore::reopen(rt.alloc(), rt, name),
         _ => DiskStore::new(rt.alloc(), rt, name),
     }
 }
@@ -149,6 +154,31 @@ fn run_command<'a, N: Sink>(
             let _ = notes.write(told.as_bytes());
         }
     }
+    let ended = Ended {
+        number: status.number(),
+        refusal: status.refusal(),
+    };
+    tell_after(alloc, rt, call, ended, &out, notes);
+    status
+}
+
+// Runs a session over the store; a terminal is told what stands in its way before.
+fn run_live<'a, N: Sink>(
+    rt: &HostRuntime,
+    words: &[&str],
+    store: DiskStore<'a, HostRuntime>,
+    notes: &mut N,
+) -> Status
+    requires { ForSome (⟦<DiskStore<'a, HostRuntime> as Store>⟧.view store).records (λ held. held ≡ map.empty) }
+{
+    let alloc = rt.alloc();
+    let call = Call {
+        program: Program::FalkirkDisk,
+        words,
+        is_person: rt.stderr().is_terminal(),
+    };
+    let mut out = AckSink::new(alloc, TellingSink::new(rt.stdout()));
+    let status = tell(alloc, answer_lines(rt, words, store, &mut out), notes);
     let ended = Ended {
         number: status.number(),
         refusal: status.refusal(),

@@ -74,8 +74,8 @@ pub fn read_held<F: Folder>(
     })
 }
 
-// The flow of the text under a name, and the text's digest.
-fn flow_with_digest<F: Folder>(
+/// The flow of the text under a name, and the text's digest.
+pub fn flow_with_digest<F: Folder>(
     alloc: Global,
     folder: &mut F,
     name: &str,

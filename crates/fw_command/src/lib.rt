@@ -9,7 +9,7 @@ mod reading;
 mod words;
 
 pub use denoting::print_denotation;
-pub use held::{HeldJob, read_held};
+pub use held::{HeldJob, flow_with_digest, read_held};
 pub use listing::list;
 pub use manner::{Course, LastLine, Manner, Showing};
 pub use reading::{Fed, Job, JobFault, fetch_flow, read_fed, read_generated, read_job};

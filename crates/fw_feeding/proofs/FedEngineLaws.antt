@@ -156,7 +156,7 @@ holds-alike flow now later state a p (written.Checkpoint recorded stamps sent) (
 holds-alike flow now later state a p (written.Event event) (checkpoint f low) k = absurd k
 holds-alike flow now later state a p (written.Event event) (logged_event serial) k = k
 
-entries-alike : (flow : Dataflow) (now later : List (List (List Rec))) (state : Machine) → AreAlikeIn flow now later (events state.history)
+pub entries-alike : (flow : Dataflow) (now later : List (List (List Rec))) (state : Machine) → AreAlikeIn flow now later (events state.history)
     → (entries : List Entry) (writes : List Write)
     → AreEntriesOf (with_batches flow now) state entries writes → AreEntriesOf (with_batches flow later) state entries writes
 entries-alike flow now later state a entries writes k =
@@ -225,7 +225,7 @@ record-alike flow now later state a p (Some g) (logged_event serial) (tagged.Sta
 record-alike flow now later state a p (Some g) (logged_event serial) (tagged.Event node event) k = absurd k
 record-alike flow now later state a p (Some g) (logged_event serial) (tagged.Changes id c) k = absurd k
 
-stored-alike : (flow : Dataflow) (now later : List (List (List Rec))) (state : Machine) → AreAlikeIn flow now later (events state.history)
+pub stored-alike : (flow : Dataflow) (now later : List (List (List Rec))) (state : Machine) → AreAlikeIn flow now later (events state.history)
     → (records : Option Records) (entries : List Entry) (writes : List Write)
     → AreStored (with_batches flow now) state records entries writes → AreStored (with_batches flow later) state records entries writes
 stored-alike flow now later state a records entries writes k = λ held e.

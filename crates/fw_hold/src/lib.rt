@@ -19,3 +19,5 @@ pub use found::{FoundRoot, counted_root, put_root};
 pub use place::HeldCounts;
 pub use plan::HeldPlan;
 pub use run::hold;
+pub use start::{are_same, decoded_root};
+pub use types::{are_bytes, is_digest};

@@ -110,7 +110,11 @@ fn resume_from<E: HeldEngine, K: Store, O: Sink>(
 }
 
 /// What the bytes of a root spell, if it is one of these texts.
-fn decoded_root(
+///
+/// # Errors
+///
+/// `ForeignRoot` where it is one of others, `DamagedRoot` where they spell none, `NoMemory`.
+pub fn decoded_root(
     alloc: Global,
     digests: &Digests,
     flow: &Flow,
@@ -139,7 +143,7 @@ fn decoded_root(
 }
 
 /// Whether these are the digests of the same texts.
-fn are_same(one: &Digests, other: &Digests) -> bool
+pub fn are_same(one: &Digests, other: &Digests) -> bool
     ensures { IsTrue result ↔ (one.now ≡ other.now) }
 {
     one.flow == other.flow && one.inputs == other.inputs && one.schedule == other.schedule

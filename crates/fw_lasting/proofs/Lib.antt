@@ -1,0 +1,14 @@
+pub mod GivenLaws
+pub mod MoreLaws
+pub mod AgainLaws
+pub mod IdLaws
+pub mod CameLaws
+pub mod HoldLaws
+pub mod KeepLaws
+pub mod StartLaws
+pub mod ReadLaws
+pub mod ReadAllLaws
+pub mod StartingLaws
+pub mod SteppingLaws
+pub mod UnderWayLaws
+pub mod LivingLaws

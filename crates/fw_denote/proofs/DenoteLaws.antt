@@ -1,5 +1,5 @@
 -- When bags by node are the denotation.
-use Rattle.std.proofs.Common.{◌≡◌, ℕ, zero, suc, ◌+◌, ◌*◌, ◌≤◌, List, [], ◌∷◌, length, get_or, map, replicate, refl, sym, ap, subst, ◌∙◌, inl, inr, lit≤, arith}
+use Rattle.std.proofs.Common.{◌≡◌, ℕ, zero, suc, ◌+◌, ◌*◌, ◌≤◌, List, [], length, map, replicate, refl, sym, ap, subst, ◌∙◌, inl, inr, lit≤, arith}
 use Rattle.std.specs.List.{range_with_len}
 use Rattle.std.proofs.Math.Nat.{mul-le-mul, le_trans}
 use Rattle.std.proofs.lemmas.List.{get_or_past, length-replicate}
@@ -8,11 +8,11 @@ use Rattle.std.proofs.lemmas.Bool.{cases_lt}
 use Rattle.fw_flow.specs.declared.node.Edge.{Edge}
 use Rattle.fw_flow.specs.Dataflow.{Dataflow, System, kind_of, sender}
 use Rattle.fw_flow.specs.WellFormed.{IsWellFormed}
-use Rattle.fw_flow.specs.WholeBags.{Timed, in_order, outputs_of}
+use Rattle.fw_flow.specs.WholeBags.{Timed, in_order}
 use Rattle.fw_model.specs.Carried.{carried_timed}
 use Rattle.fw_model.specs.Denotation.{Family, IsDenotation, rounds}
 use Rattle.fw_model.specs.Measure.{Measure, enough_rounds}
-use Rattle.fw_model.proofs.CarriedLaws.{carried_timed-none, carried_timed-all}
+use Rattle.fw_model.proofs.CarriedLaws.{carried_timed-none, carried_timed-in_order}
 use Rattle.fw_model.proofs.MeasureLaws.{measure-exists}
 use Rattle.fw_model.proofs.DependenceLaws.{recs_decide}
 use Rattle.fw_model.proofs.DenotationLaws.{denotation-exists, denotation-in_order, outputs_of-same, past-outputs}
@@ -28,13 +28,17 @@ past-held : (flow : Dataflow) (bags : List (List Timed)) → AreBagsHeld flow ba
 past-held flow bags h e l =
     let s = past-sender flow e l in
     let n = h.one_each in
-    get_or_past bags (sender flow e) [] (omega arith)
+    ap (carried_timed flow e) (get_or_past bags (sender flow e) [] (omega arith)) ∙ carried_timed-none flow e
+
+-- what is held of each edge is in order
+pub held-in_order : (flow : Dataflow) (bags : List (List Timed)) → AreBagsHeld flow bags → (e : ℕ) → in_order (family_held flow bags e) ≡ family_held flow bags e
+held-in_order flow bags h e = carried_timed-in_order flow e (bag_sent_by bags (sender flow e)) (h.in_order (sender flow e))
 
 -- bags that solve the equations of the nodes are the denotation
 pub solved-denotes : (sys : System) → IsWellFormed sys.flow → (bags : List (List Timed)) → AreBagsHeld sys.flow bags → IsSolved sys bags
     → IsDenotation sys (family_held sys.flow bags)
 solved-denotes sys w bags h s e = elim (cases_lt e (length sys.flow.edges)) [
-  | inl l ↦ s (sender sys.flow e) (w.senders_declared e l) ∙ sym (carried_timed-all sys.flow e (outputs_of sys (family_held sys.flow bags) (sender sys.flow e)))
+  | inl l ↦ ap (carried_timed sys.flow e) (s (sender sys.flow e) (w.senders_declared e l))
   | inr l ↦ past-held sys.flow bags h e l ∙ sym (ap (carried_timed sys.flow e) (past-outputs sys (family_held sys.flow bags) e l) ∙ carried_timed-none sys.flow e)
 ]
 
@@ -50,7 +54,7 @@ right-denotes sys w bags h m l f =
     let a = f by family d in
     let agree : (e : ℕ) → family_held flow bags e ≡ family e =
     λ e. elim (cases_lt e (length flow.edges)) [
-      | inl k ↦ recs_decide (family_held flow bags e) (family e) (h.in_order (sender flow e)) (denotation-in_order sys family d e)
+      | inl k ↦ recs_decide (family_held flow bags e) (family e) (held-in_order flow bags h e) (denotation-in_order sys family d e)
           (λ t. a.each e k t (let b = by.bound _ (w.receivers_declared e k) t in omega arith))
       | inr k ↦ past-held flow bags h e k ∙ sym (d e ∙ ap (carried_timed flow e) (past-outputs sys family e k) ∙ carried_timed-none flow e)
     ] in
@@ -90,23 +94,18 @@ enough-fits flow w = product-fits (length flow.nodes) w.limits.nodes
 
 -- ---- by edges
 
-map-twice : {A B C : Type 0} (f : B → C) (g : A → B) (xs : List A) → map f (map g xs) ≡ map (λ x. f (g x)) xs
-map-twice f g [] = refl
-map-twice f g (x ∷ xs) = ap (λ ys. f (g x) ∷ ys) (map-twice f g xs)
-
 on_edges : (flow : Dataflow) (bags : List (List Timed)) → AreBagsHeld flow bags → (e : ℕ)
-    → family_on (map (bag_sent_by bags) (map (sender flow) (range_with_len 0 (length flow.edges)))) e ≡ family_held flow bags e
+    → family_on (map (family_held flow bags) (range_with_len 0 (length flow.edges))) e ≡ family_held flow bags e
 on_edges flow bags h e =
     let n = length flow.edges in
-    ap (λ xs. get_or xs e []) (map-twice (bag_sent_by bags) (sender flow) (range_with_len 0 n))
-    ∙ elim (cases_lt e n) [
+    elim (cases_lt e n) [
       | inl l ↦ get_or-map-range_with_len (family_held flow bags) 0 n e e [] l (omega arith)
       | inr l ↦ get_or_past (map (family_held flow bags) (range_with_len 0 n)) e [] (omega (arith, length-map-range_with_len (family_held flow bags) 0 n)) ∙ sym (past-held flow bags h e l)
     ]
 
 -- the denotation by nodes, seen by edges
 pub denotes_on : (sys : System) (bags on : List (List Timed)) → AreBagsHeld sys.flow bags → IsDenotation sys (family_held sys.flow bags)
-    → on ≡ map (bag_sent_by bags) (map (sender sys.flow) (range_with_len 0 (length sys.flow.edges))) → IsDenotation sys (family_on on)
+    → on ≡ map (family_held sys.flow bags) (range_with_len 0 (length sys.flow.edges)) → IsDenotation sys (family_on on)
 denotes_on sys bags on h d i =
     let same : (e : ℕ) → family_on on e ≡ family_held sys.flow bags e = λ e. ap (λ xs. family_on xs e) i ∙ on_edges sys.flow bags h e in
     λ e. same e ∙ d e ∙ sym (ap (carried_timed sys.flow e) (outputs_of-same sys (family_on on) (family_held sys.flow bags) same (sender sys.flow e)))

@@ -1,5 +1,6 @@
 -- What running a node leads to.
 use Rattle.std.proofs.Common.{◌≡◌, ◌≢◌, ℕ, suc, ◌+◌, ◌<◌, ◌≤◌, ◌⊎◌, true, List, [], ◌∷◌, length, get_or, set, map, refl, sym, ap, subst, ◌∙◌, inl, inr, arith}
+use Rattle.std.specs.Prelude.{filter}
 use Rattle.std.specs.List.{AllByRecursion}
 use Rattle.std.proofs.lemmas.List.{get_or-set_same, get_or-set_other, length-set}
 use Rattle.std.proofs.lemmas.Bool.{cases_lt}
@@ -10,11 +11,13 @@ use Rattle.fw_lemmas.proofs.Orderings.{equal_from_is_eq, slice_cmp-same}
 use Rattle.fw_time.specs.Stamp.{Stamp, same}
 use Rattle.fw_bag.specs.declared.rec.Rec.{Rec}
 use Rattle.fw_flow.specs.Dataflow.{Dataflow, System, kind_of, sender, receiver, in_edges, batches_of, system_of}
+use Rattle.fw_flow.specs.KeyParts.{is_carried}
 use Rattle.fw_flow.specs.WellFormed.{IsWellFormed, IsWellFormedSystem}
 use Rattle.fw_flow.specs.WholeBags.{Timed, timed_cmp, in_order, outputs_of, outputs_of_kind, timed_where}
+use Rattle.fw_model.specs.Carried.{carried_timed}
 use Rattle.fw_model.specs.Denotation.{Family, IsDenotation, bag_at}
 use Rattle.fw_model.specs.Measure.{Measure}
-use Rattle.fw_model.proofs.CarriedLaws.{carried_timed-all}
+use Rattle.fw_model.proofs.CarriedLaws.{where-carried}
 use Rattle.fw_model.proofs.TimedLaws.{each-in_order, in_order-twice, timed_cmp-same}
 use Rattle.fw_model.proofs.DependenceLaws.{out_bags-depend}
 use Rattle.fw_model.proofs.DenotationLaws.{denotation-in_order}
@@ -22,6 +25,7 @@ use Rattle.fw_model.proofs.DenotationDomainLaws.{IsIn, IsOut, outputs-in_domain}
 use Rattle.fw_model.proofs.OutputLaws.{At}
 use Rattle.fw_denote.specs.Domains.{AreIn, AreOut}
 use Rattle.fw_denote.specs.Holding.{AreBagsHeld, AreRight, AreSolvedUpTo, family_held, bag_sent_by}
+use Rattle.fw_denote.proofs.DenoteLaws.{held-in_order}
 use Rattle.fw_denote.proofs.WholeLaws.{comes_in}
 
 equal_or_not : (p q : ℕ) → (p ≡ q) ⊎ (p ≢ q)
@@ -102,12 +106,14 @@ solved_more sys bags new p e same there h q l =
 
 right-sent : (sys : System) → IsWellFormed sys.flow → (by : Measure sys.flow) (family : Family) → IsDenotation sys family → (bags : List (List Timed)) → AreBagsHeld sys.flow bags
     → (p m : ℕ) → AreRight sys.flow by family p m bags → (e : ℕ) → e < length sys.flow.edges → sender sys.flow e ≡ p → (t : Stamp)
-    → by.measure (receiver sys.flow e) t < m + 1 → timed_where (same t) (outputs_of sys (family_held sys.flow bags) p) ≡ bag_at family e t
+    → by.measure (receiver sys.flow e) t < m + 1 → timed_where (same t) (carried_timed sys.flow e (outputs_of sys (family_held sys.flow bags) p)) ≡ bag_at family e t
 right-sent sys w by family d bags h p m a e l i t k =
-    ap (λ q. timed_where (same t) (outputs_of sys (family_held sys.flow bags) q)) (sym i)
-    ∙ out_bags-depend sys (family_held sys.flow bags) family w by (λ x. h.in_order (sender sys.flow x)) (λ x. denotation-in_order sys family d x) e l t
-    (λ x xl r s j. a.each x xl s (let z : by.measure (receiver sys.flow x) s ≡ by.measure (sender sys.flow e) s = ap (λ q. by.measure q s) r in omega arith))
-    ∙ sym (ap (timed_where (same t)) (d e ∙ carried_timed-all sys.flow e (outputs_of sys family (sender sys.flow e))))
+    let flow = sys.flow in
+    ap (λ q. timed_where (same t) (carried_timed flow e (outputs_of sys (family_held flow bags) q))) (sym i)
+    ∙ where-carried flow e (same t) (outputs_of sys (family_held flow bags) (sender flow e))
+    ∙ ap (filter (is_carried flow e)) (out_bags-depend sys (family_held flow bags) family w by (held-in_order flow bags h) (λ x. denotation-in_order sys family d x) e l t
+    (λ x xl r s j. a.each x xl s (let z : by.measure (receiver flow x) s ≡ by.measure (sender flow e) s = ap (λ q. by.measure q s) r in omega arith)))
+    ∙ sym (ap (timed_where (same t)) (d e) ∙ where-carried flow e (same t) (outputs_of sys family (sender flow e)))
 
 pub right_more : (sys : System) → IsWellFormed sys.flow → (by : Measure sys.flow) (family : Family) → IsDenotation sys family → (bags : List (List Timed)) → AreBagsHeld sys.flow bags
     → (p m : ℕ) → p < length sys.flow.nodes → AreRight sys.flow by family p m bags
@@ -115,10 +121,10 @@ pub right_more : (sys : System) → IsWellFormed sys.flow → (by : Measure sys.
 right_more sys w by family d bags h p m there a =
     let out = outputs_of sys (family_held sys.flow bags) p in
     let l : p < length bags = let n = h.one_each in omega arith in
-    let moved : (e : ℕ) (t : Stamp) → sender sys.flow e ≡ p → bag_at (family_held sys.flow (set bags p out)) e t ≡ timed_where (same t) out =
-    λ e t i. ap (timed_where (same t)) (ap (bag_sent_by (set bags p out)) i ∙ get_or-set_same bags p out [] l) in
+    let moved : (e : ℕ) (t : Stamp) → sender sys.flow e ≡ p → bag_at (family_held sys.flow (set bags p out)) e t ≡ timed_where (same t) (carried_timed sys.flow e out) =
+    λ e t i. ap (λ rs. timed_where (same t) (carried_timed sys.flow e rs)) (ap (bag_sent_by (set bags p out)) i ∙ get_or-set_same bags p out [] l) in
     let kept : (e : ℕ) (t : Stamp) → sender sys.flow e ≢ p → bag_at (family_held sys.flow (set bags p out)) e t ≡ bag_at (family_held sys.flow bags) e t =
-    λ e t n. ap (timed_where (same t)) (get_or-set_other bags p (sender sys.flow e) out [] n) in
+    λ e t n. ap (λ rs. timed_where (same t) (carried_timed sys.flow e rs)) (get_or-set_other bags p (sender sys.flow e) out [] n) in
     record {
       each = λ e el t k. elim (equal_or_not (sender sys.flow e) p) [
         | inl i ↦ moved e t i ∙ right-sent sys w by family d bags h p m a e el i t (omega arith)

@@ -11,13 +11,14 @@ use Rattle.fw_bag.specs.declared.rec.Rec.{Rec}
 use Rattle.fw_lines.specs.Batches.{batches_at}
 use Rattle.fw_flow.specs.Kind.{Kind}
 use Rattle.fw_flow.specs.declared.kind.Kind.TheVariants.{Input, OutputEpoch, OutputNumber, Select, Concat, Distinct, Join, Sum, Enter, Feedback, Leave, Total, Sequence, Ledger, Regroup}
-use Rattle.fw_flow.specs.Dataflow.{Dataflow, kind_of, sender, receiver, in_edges, bounds_of, bounds_of_domain, batches_of, batches_of_nodes, system_of}
+use Rattle.fw_flow.specs.Dataflow.{Dataflow, kind_of, sender, receiver, in_edges, out_domain_of, bounds_of, bounds_of_domain, batches_of, batches_of_nodes, system_of}
 use Rattle.fw_flow.specs.WellFormed.{IsWellFormed, IsWellFormedSystem, IsInDegree}
 use Rattle.fw_flow.specs.WholeBags.{Timed, in_order, one_by_one, joint_bag, outputs_of, outputs_of_kind}
+use Rattle.fw_model.proofs.CarriedLaws.{carried_timed-each}
 use Rattle.fw_model.proofs.LegalLaws.{edge_domains}
 use Rattle.fw_model.proofs.DependenceLaws.{in_edges-each}
 use Rattle.fw_denote.specs.Domains.{AreIn, AreOut}
-use Rattle.fw_denote.specs.Holding.{AreBagsHeld, family_held}
+use Rattle.fw_denote.specs.Holding.{AreBagsHeld, bag_sent_by, family_held}
 
 -- ---- by the number of bags
 
@@ -122,7 +123,8 @@ comes_in flow w bags h p kind edges i d k e l =
     let there = each-at (λ (y : ℕ). (y < length flow.edges) × (receiver flow y ≡ p)) edges i d l
     (subst (AllByRecursion (λ (y : ℕ). (y < length flow.edges) × (receiver flow y ≡ p))) (sym e) (in_edges-each flow p)) in
     let at : AreIn flow (kind_of flow (receiver flow x)) (family_held flow bags x) =
-    subst (λ dom. AllByRecursion (λ (r : Timed). in_domain (bounds_of_domain flow dom) r.at ≡ true) (family_held flow bags x)) (edge_domains flow w x) (h.in_domain (sender flow x)) in
+    subst (λ dom. AllByRecursion (λ (r : Timed). in_domain (bounds_of_domain flow dom) r.at ≡ true) (family_held flow bags x)) (edge_domains flow w x)
+    (carried_timed-each flow x (λ (r : Timed). in_domain (bounds_of_domain flow (out_domain_of flow (sender flow x))) r.at ≡ true) (bag_sent_by bags (sender flow x)) (h.in_domain (sender flow x))) in
     subst (λ y. AreIn flow y (family_held flow bags x)) (ap (kind_of flow) there.1 ∙ sym k) at
 
 degree-many : (flow : Dataflow) (kind : Kind) (n : ℕ) → IsInDegree kind n → 3 ≤ n → (bs : List (List Rec)) (bags : List (List Timed))

@@ -1,8 +1,9 @@
--- What is held of a family: for each node the bag that it sends on each of its out-edges.
+-- What is held of a family: for each node the bag that it sends.
 use Rattle.std.specs.Prelude.{◌≡◌, ℕ, ◌+◌, ◌<◌, List, [], length, slice_index_or}
 use Rattle.fw_time.specs.Stamp.{Stamp}
 use Rattle.fw_flow.specs.Dataflow.{Dataflow, System, kind_of, sender, receiver}
 use Rattle.fw_flow.specs.WholeBags.{Timed, in_order, outputs_of}
+use Rattle.fw_model.specs.Carried.{carried_timed}
 use Rattle.fw_model.specs.Denotation.{Family, bag_at}
 use Rattle.fw_model.specs.Measure.{Measure}
 use Rattle.fw_denote.specs.Domains.{AreOut}
@@ -11,9 +12,9 @@ use Rattle.fw_denote.specs.Domains.{AreOut}
 abbrev pub bag_sent_by : List (List Timed) → ℕ → List Timed
 bag_sent_by bags p = slice_index_or bags p []
 
--- the family of the edges
+-- the family of the edges: each carries its part of the bag that its sender sends
 abbrev pub family_held : Dataflow → List (List Timed) → Family
-family_held flow bags e = bag_sent_by bags (sender flow e)
+family_held flow bags e = carried_timed flow e (bag_sent_by bags (sender flow e))
 
 -- there is a bag for each node of the flow, in order and at stamps of its out domain
 pub record AreBagsHeld (flow : Dataflow) (bags : List (List Timed)) : Type 0 where

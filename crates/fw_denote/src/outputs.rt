@@ -1,6 +1,7 @@
 //! What a node sends in all.
-ghost use Rattle.std.specs.Prelude.{◌≡◌, ◌≤◌, ◌<◌, ◌^◌, ◌++◌, [], ◌∷◌, length, map, IfOk, OnOk};
+ghost use Rattle.std.specs.Prelude.{◌≡◌, ◌≤◌, ◌<◌, ◌^◌, ◌++◌, [], ◌∷◌, length, map, filter, IfOk, OnOk};
 ghost use Rattle.fw_flow.specs.Dataflow.{kind_of, batches_of, system_of};
+ghost use Rattle.fw_flow.specs.KeyParts.{is_of_part_if};
 ghost use Rattle.fw_flow.specs.WellFormed.{IsGroupSize, IsInDegree, IsWellFormedSystem};
 ghost use Rattle.fw_flow.specs.WholeBags as whole;
 ghost use Rattle.fw_denote.specs.Domains.{AreIn};
@@ -13,7 +14,7 @@ use crate::keyed::{running_totals, sum_sent, total_sent};
 use crate::numbered::{batched, numbered};
 use crate::{Timed, TimedBag};
 use fw_bag::Bag;
-use fw_flow::{EdgeId, Flow, Kind, NodeId};
+use fw_flow::{EdgeId, Flow, KeyPart, Kind, NodeId, is_of_part};
 use fw_lines::Batches;
 use std::alloc::{AllocError, Global};
 
@@ -60,11 +61,38 @@ pub(crate) fn bag_of(bags: &[TimedBag], node: NodeId) -> &[Timed]
     }
 }
 
-/// The bag that comes on an edge.
-fn on_edge<'a>(flow: &Flow, bags: &'a [TimedBag], edge: EdgeId) -> &'a [Timed]
-    ensures { result.now ≡ family_held flow.now bags.now edge }
+/// The timed recs whose keys are of a part, where there is one; else all. The error is want of memory.
+pub(crate) fn of_part(
+    alloc: Global,
+    part: Option<KeyPart>,
+    sent: &[Timed],
+) -> Result<Vec<Timed>, AllocError>
+    ensures { IfOk result (λ rs. rs.items ≡ filter (λ r. is_of_part_if part r.rec.key) sent.now) }
 {
-    bag_of(bags, flow.src(edge))
+    let mut rs = Vec::with_capacity(alloc, sent.len())?;
+    for r in sent {
+        if is_of_part(part, r.rec().key) {
+            rs.push(r.copy())?;
+        }
+    }
+    Ok(rs)
+}
+
+/// The bag that comes on an edge: what this carries of the bag that its sender sends. The error is want of memory.
+pub(crate) fn on_edge(
+    alloc: Global,
+    flow: &Flow,
+    bags: &[TimedBag],
+    edge: EdgeId,
+) -> Result<Vec<Timed>, AllocError>
+    ensures recs { IfOk result (λ rs. rs.items ≡ family_held flow.now bags.now edge) }
+    ensures in_order { IfOk result (λ rs. whole.in_order rs.items ≡ rs.items) }
+{
+    of_part(
+        alloc,
+        flow.part(flow.dst(edge)),
+        bag_of(bags, flow.src(edge)),
+    )
 }
 
 /// The timed recs that come on the edges.
@@ -78,7 +106,8 @@ fn joint(
 {
     let mut rs = Vec::new(alloc);
     for edge in edges {
-        put_all(&mut rs, on_edge(flow, bags, *edge))?;
+        let more = on_edge(alloc, flow, bags, *edge)?;
+        put_all(&mut rs, &more)?;
     }
     Ok(rs)
 }
@@ -133,14 +162,15 @@ fn recs_sent(
     let edges = flow.in_edges(node);
     match edges {
         [] => sent(alloc, flow, &kind, batches.of(node.place()), &[]),
-        [edge] => sent(alloc, flow, &kind, &[], on_edge(flow, bags, *edge)),
-        [left, right] => sent_of_two(
-            alloc,
-            flow,
-            &kind,
-            on_edge(flow, bags, *left),
-            on_edge(flow, bags, *right),
-        ),
+        [edge] => {
+            let rs = on_edge(alloc, flow, bags, *edge)?;
+            sent(alloc, flow, &kind, &[], &rs)
+        }
+        [left, right] => {
+            let lefts = on_edge(alloc, flow, bags, *left)?;
+            let rights = on_edge(alloc, flow, bags, *right)?;
+            sent_of_two(alloc, flow, &kind, &lefts, &rights)
+        }
         _ => joint(alloc, flow, bags, edges),
     }
 }

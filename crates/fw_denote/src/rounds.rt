@@ -14,7 +14,7 @@ ghost use Rattle.fw_denote.specs.Holding.{AreBagsHeld};
 
 use crate::join::joined;
 use crate::numbered::batched;
-use crate::outputs::{put_all, sent};
+use crate::outputs::{of_part, put_all, sent};
 use crate::ranks::{Ranks, Turn};
 use crate::{Timed, TimedBag};
 use fw_flow::{EdgeId, Flow, Kind, NodeId};
@@ -86,7 +86,7 @@ fn put_into(
     }
 }
 
-/// Puts what a node sent at the same counters into the slices of the receivers.
+/// Puts what a node sent at the same counters into the slices of the receivers, of each what its edge carries.
 fn post(
     alloc: Global,
     flow: &Flow,
@@ -99,8 +99,10 @@ fn post(
         return Ok(());
     };
     for edge in flow.out_edges(node) {
-        let turn = ranks.turn(flow.dst(*edge), first.at());
-        put_into(alloc, waiting, turn, is_second(flow, *edge), recs)?;
+        let receiver = flow.dst(*edge);
+        let turn = ranks.turn(receiver, first.at());
+        let mine = of_part(alloc, flow.part(receiver), recs)?;
+        put_into(alloc, waiting, turn, is_second(flow, *edge), &mine)?;
     }
     Ok(())
 }

@@ -30,6 +30,7 @@ use Rattle.fw_keep.specs.declared.entry.Entry.{Entry}
 use Rattle.fw_keep.specs.Entry.{asked}
 use Rattle.fw_keep.specs.Stored.{Records}
 use Rattle.fw_policy.specs.View.{IsLostAt}
+use Rattle.fw_node.specs.Answers.{without_causes}
 use Rattle.fw_progress.specs.History.{FollowsEvent}
 use Rattle.fw_progress.specs.Trace.{TracesFollow}
 use Rattle.fw_stands.specs.Events.{put_on, LogFollows, QueueFollows}
@@ -50,7 +51,7 @@ use Rattle.fw_running.specs.declared.running.Running.{Running}
 use Rattle.fw_running.specs.Kept.{queue_at, log_at, table_of, source_of, output_of, lost_at, is_down}
 use Rattle.fw_running.specs.Logging.{IsEventAsked, IsNotAsked}
 use Rattle.fw_running.specs.Stands.{Stands}
-use Rattle.fw_events.specs.AfterEvent.{stamps_in, EdgesFollow, LeavesOthers, WritesStand, EventsAreFollowed, LoggedEventsAreFollowed}
+use Rattle.fw_events.specs.AfterEvent.{EdgesFollow, LeavesOthers, WritesStand, EventsAreFollowed, LoggedEventsAreFollowed}
 
 -- ---- edges
 
@@ -173,13 +174,13 @@ events_are_followed sys state v old new before after step effect s enabled live 
             let not = injects-here sys.flow v q k in
             subst (IsSourceOf sys next q) (sym (o.sources q not)) (sources-stay sys state v q not (source_of old q) (s.apart.sources q l)));
         progress = progress-follows sys state w r v enabled t.sent sent old.progress new.progress
-            (subst (λ f. FollowsEvent f v (stamps_in t.sent) old.progress new.progress) s.apart.flow t.progress) s.apart.progress;
+            (subst (λ f. FollowsEvent f v (without_causes t.sent) old.progress new.progress) s.apart.flow t.progress) s.apart.progress;
         entries = writes.0;
         bases = writes.1;
         stored = writes.2;
       };
       traces = knows-next sys state step next effect old.traces new.traces w r refl leads s.traces (λ q l.
-          traces-follow sys s.traces.floor state v t.sent sent old.traces new.traces (subst (λ f. TracesFollow f v (stamps_in t.sent) old.traces new.traces) s.apart.flow t.traces) q);
+          traces-follow sys s.traces.floor state v t.sent sent old.traces new.traces (subst (λ f. TracesFollow f v (without_causes t.sent) old.traces new.traces) s.apart.flow t.traces) q);
       lost = λ q full x.
           let stays = lost-stays sys state v live q x in
           let was : Contains (lost_at new q) x ↔ IsLostAt sys state q x =

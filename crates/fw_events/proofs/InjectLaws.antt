@@ -24,9 +24,10 @@ use Rattle.fw_border.specs.Sources.{SourceState, advanced, next_batch, source_at
 use Rattle.fw_keep.specs.Stored.{Records}
 use Rattle.fw_node.specs.declared.node.Node.{Node}
 use Rattle.fw_node.specs.declared.sends.Sends.{Sends}
+use Rattle.fw_node.specs.Answers.{without_causes}
 use Rattle.fw_node.specs.NodeOf.{CanBeSent, stamps_of}
-use Rattle.fw_node.specs.Sends.{messages_of}
-use Rattle.fw_node.proofs.MessageLaws.{caused-at, messages-at}
+use Rattle.fw_node.specs.Sends.{messages_of, sends_list}
+use Rattle.fw_node.proofs.MessageLaws.{caused-at, messages-at, messages-recs}
 use Rattle.fw_node.proofs.NodeOfLaws.{input-can_send}
 use Rattle.fw_progress.specs.declared.traces.Traces.{Traces}
 use Rattle.fw_progress.specs.History.{FollowsEvent as ProgressFollows}
@@ -43,7 +44,7 @@ use Rattle.fw_running.specs.Logging.{IsNotAsked}
 use Rattle.fw_running.specs.Stands.{Stands}
 use Rattle.fw_running.specs.Steps.{Follows}
 use Rattle.fw_running.proofs.SameStateLaws.{down-failed, idle-follows}
-use Rattle.fw_events.specs.AfterEvent.{stamps_in, EdgesFollow, OwnFollow, TakesEvent}
+use Rattle.fw_events.specs.AfterEvent.{EdgesFollow, OwnFollow, TakesEvent}
 use Rattle.fw_events.specs.Sending.{with_queues, with_logs, ChangesEdges, SendsOn}
 use Rattle.fw_events.specs.Taking.{with_sources, with_told, IsNextSent, TellsOf}
 use Rattle.fw_events.proofs.AfterEventLaws.{events_are_followed, injections_are_followed}
@@ -59,7 +60,7 @@ pub record TakenFromSource (s x : ℕ) (sent : List Message) (old a b new : Runn
   pub sending : ChangesEdges a b
   pub sends : SendsOn (out_edges old.flow s) (can_resend (policy_of old.flow s)) sent a b
   pub telling : new ≡ with_told new.traces new.progress b
-  pub told : TellsOf (Injected s x) (stamps_in sent) b new
+  pub told : TellsOf (Injected s x) (without_causes sent) b new
 
 none-there : (table : Option Node) → is_some table ≡ false → table ≡ None
 none-there None k = refl
@@ -97,10 +98,10 @@ taken_from_source s x batch sent old a b new t input there next injected sent_is
     logs_stay = edges.logs_stay;
   });
   own = own;
-  progress = subst (λ f. ProgressFollows f (Injected s x) (stamps_in sent) old.progress new.progress) (to_b Dataflow (λ r. r.flow) refl refl)
-      (subst (λ p. ProgressFollows b.flow (Injected s x) (stamps_in sent) p new.progress) (to_b Standing (λ r. r.progress) refl refl) t.told.progress);
-  traces = subst (λ f. TracesFollow f (Injected s x) (stamps_in sent) old.traces new.traces) (to_b Dataflow (λ r. r.flow) refl refl)
-      (subst (λ p. TracesFollow b.flow (Injected s x) (stamps_in sent) p new.traces) (to_b Traces (λ r. r.traces) refl refl) t.told.traces);
+  progress = subst (λ f. ProgressFollows f (Injected s x) (without_causes sent) old.progress new.progress) (to_b Dataflow (λ r. r.flow) refl refl)
+      (subst (λ p. ProgressFollows b.flow (Injected s x) (without_causes sent) p new.progress) (to_b Standing (λ r. r.progress) refl refl) t.told.progress);
+  traces = subst (λ f. TracesFollow f (Injected s x) (without_causes sent) old.traces new.traces) (to_b Dataflow (λ r. r.flow) refl refl)
+      (subst (λ p. TracesFollow b.flow (Injected s x) (without_causes sent) p new.traces) (to_b Traces (λ r. r.traces) refl refl) t.told.traces);
 }
   where
     to_b : (T : Type 0) (F : Running → T) → F (with_queues b.parts.queues b.ready.edges (with_logs b.parts.logs a)) ≡ F a
@@ -140,12 +141,12 @@ taken_from_source s x batch sent old a b new t input there next injected sent_is
         )
 
 -- so an input takes the injection of its next batch, which it sends
-pub injected-takes : (s x : ℕ) (cause : Stamp) (stamps : List Stamp) (sends : Sends) (old a b new : Running) → IsNextSent (source_of old s) x sends
-    → is_input_kind (kind_of old.flow s) ≡ true → s < length old.parts.sources → cause ≡ x ∷ [] → stamps ≡ stamps_of sends
+pub injected-takes : (s x : ℕ) (cause : Stamp) (recs : List (Stamp × Rec)) (sends : Sends) (old a b new : Running) → IsNextSent (source_of old s) x sends
+    → is_input_kind (kind_of old.flow s) ≡ true → s < length old.parts.sources → cause ≡ x ∷ [] → recs ≡ sends_list sends
     → a ≡ with_sources a.parts.sources old → a.parts.sources ≡ with_source advanced old.parts.sources s → ChangesEdges a b
     → SendsOn (out_edges a.flow s) (can_resend (policy_of a.flow s)) (messages_of cause sends) a b
-    → new ≡ with_told new.traces new.progress b → TellsOf (Injected s x) stamps b new → TakesEvent (Injected s x) old new
-injected-takes s x cause stamps sends old a b new n input there at is changing source sending sent telling told =
+    → new ≡ with_told new.traces new.progress b → TellsOf (Injected s x) recs b new → TakesEvent (Injected s x) old new
+injected-takes s x cause recs sends old a b new n input there at is changing source sending sent telling told =
     taken_from_source s x n.batch (messages_of (x ∷ []) sends) old a b new (record {
       changing = changing;
       source = source;
@@ -154,7 +155,7 @@ injected-takes s x cause stamps sends old a b new n input there at is changing s
           (subst (λ (f : Dataflow). SendsOn (out_edges f s) (can_resend (policy_of f s)) (messages_of cause sends) a b)
           (ap (λ (r : Running). r.flow) changing) sent);
       telling = telling;
-      told = subst (λ ts. TellsOf (Injected s x) ts b new) (is ∙ sym (messages-at (x ∷ []) sends)) told;
+      told = subst (λ rs. TellsOf (Injected s x) rs b new) (is ∙ sym (messages-recs (x ∷ []) sends)) told;
     }) input there n.next n.injected n.sent
 
 -- what an input injects next can be sent

@@ -6,7 +6,7 @@ pub mod NoticingLaws
 pub mod SendLaws
 pub mod SendingLaws
 pub mod ShapedLaws
-pub mod StampsLaws
+pub mod ToldLaws
 pub mod TableLaws
 pub mod TakenShapes
 pub mod TakingLaws

@@ -1,5 +1,5 @@
 -- What is sent on one edge after the other.
-use Rattle.std.proofs.Common.{◌≡◌, ◌≢◌, ℕ, zero, suc, ◌<◌, Bool, true, false, ◌||◌, ◌==◌, cond, List, [], ◌∷◌, length, get_or, take, Result, Ok, Err, refl, sym, ap, subst, ◌∙◌, inl, inr, arith}
+use Rattle.std.proofs.Common.{◌≡◌, ◌≢◌, ℕ, zero, suc, ◌<◌, Bool, true, false, ◌||◌, ◌==◌, cond, List, [], ◌∷◌, length, get_or, take, Option, Result, Ok, Err, refl, sym, ap, subst, ◌∙◌, inl, inr, arith}
 use Rattle.std.specs.Prelude.{◌⊎◌, OnOk, slice_index_or}
 use Rattle.std.specs.List.{Contains}
 use Rattle.std.proofs.lemmas.Bool.{cases_eq, cond-true, cond-false, eq-eqb, eqb-true, false_from_ne_true, false≢true}
@@ -7,15 +7,18 @@ use Rattle.fw_lemmas.proofs.Numbers.{eqb-sym}
 use Rattle.fw_frontier.specs.Front.{inside}
 use Rattle.fw_flow.specs.declared.event.Message.{Message}
 use Rattle.fw_flow.specs.declared.event.Event.{Event}
+use Rattle.fw_flow.specs.declared.key_part.KeyPart.{KeyPart}
 use Rattle.fw_flow.specs.Dataflow.{Dataflow, is_one_of, out_edges, policy_of, receiver, sender}
+use Rattle.fw_flow.specs.KeyParts.{part_of}
 use Rattle.fw_flow.specs.Message.{messages_less}
 use Rattle.fw_flow.specs.NodeFunction.{event_node}
 use Rattle.fw_flow.specs.Restoring.{can_resend}
+use Rattle.fw_model.specs.Carried.{carried, messages_of_part}
 use Rattle.fw_model.specs.History.{message_on}
 use Rattle.fw_model.specs.Filtering.{messages_outside}
 use Rattle.fw_model.specs.Machine.{front_of}
 use Rattle.fw_model.specs.SortedMessages.{with_messages}
-use Rattle.fw_model.proofs.CarriedLaws.{carried-all}
+use Rattle.fw_model.proofs.CarriedLaws.{carried-is, carried-none}
 use Rattle.fw_edge.specs.Messages.{MessagesState}
 use Rattle.fw_rollback.specs.Edges.{on_edge}
 use Rattle.fw_stands.specs.Events.{put_on}
@@ -33,46 +36,53 @@ cond-same : (b : Bool) (ms : List Message) → cond b ms ms ≡ ms
 cond-same true ms = refl
 cond-same false ms = refl
 
-one-edge : (d e : ℕ) (ms : List Message) → sent_to (d ∷ []) e ms ≡ cond (d == e) ms []
-one-edge d e ms = ap (λ b. cond b ms []) (or-false (d == e))
+one-edge : (flow : Dataflow) (d e : ℕ) (ms : List Message) → sent_to flow (d ∷ []) e ms ≡ cond (d == e) (carried flow e ms) []
+one-edge flow d e ms = ap (λ b. cond b (carried flow e ms) []) (or-false (d == e))
   where
     or-false : (b : Bool) → (b || false) ≡ b
     or-false true = refl
     or-false false = refl
 
 -- on these edges and then on one more that is none of them, in words of what is done with the messages on an edge
-sent-more : (es more : List ℕ) (d e : ℕ) (g : List Message → List Message) (ms old : List Message) → g [] ≡ []
+sent-more : (flow : Dataflow) (es more : List ℕ) (d e : ℕ) (g : List Message → List Message) (ms old : List Message) → g [] ≡ []
     → is_one_of e more ≡ (is_one_of e es || d == e) → is_one_of d es ≡ false
-    → with_messages (g (sent_to (d ∷ []) e ms)) (with_messages (g (sent_to es e ms)) old) ≡ with_messages (g (sent_to more e ms)) old
-sent-more es more d e g ms old none is new =
-    ap (λ xs. with_messages (g xs) (with_messages (g (sent_to es e ms)) old)) (one-edge d e ms)
-    ∙ by (is_one_of e es) (d == e) refl refl ∙ ap (λ b. with_messages (g (cond b ms [])) old) (sym is)
+    → with_messages (g (sent_to flow (d ∷ []) e ms)) (with_messages (g (sent_to flow es e ms)) old) ≡ with_messages (g (sent_to flow more e ms)) old
+sent-more flow es more d e g ms old none is new =
+    ap (λ xs. with_messages (g xs) (with_messages (g (sent_to flow es e ms)) old)) (one-edge flow d e ms)
+    ∙ by (is_one_of e es) (d == e) refl refl ∙ ap (λ b. with_messages (g (cond b mine [])) old) (sym is)
   where
+    mine : List Message
+    mine = carried flow e ms
+
     by : (a b : Bool) → is_one_of e es ≡ a → (d == e) ≡ b
-        → with_messages (g (cond (d == e) ms [])) (with_messages (g (cond (is_one_of e es) ms [])) old) ≡ with_messages (g (cond (is_one_of e es || d == e) ms [])) old
+        → with_messages (g (cond (d == e) mine [])) (with_messages (g (cond (is_one_of e es) mine [])) old) ≡ with_messages (g (cond (is_one_of e es || d == e) mine [])) old
     by true true k j = absurd (false≢true (sym new ∙ ap (λ x. is_one_of x es) (eqb-true d e j) ∙ k))
     by true false k j =
-        ap (λ b. with_messages (g (cond b ms [])) (with_messages (g (cond (is_one_of e es) ms [])) old)) j
-        ∙ ap (λ b. with_messages (g []) (with_messages (g (cond b ms [])) old)) k
-        ∙ ap (λ xs. with_messages xs (with_messages (g ms) old)) none
-        ∙ sym (ap (λ b. with_messages (g (cond (b || d == e) ms [])) old) k)
+        ap (λ b. with_messages (g (cond b mine [])) (with_messages (g (cond (is_one_of e es) mine [])) old)) j
+        ∙ ap (λ b. with_messages (g []) (with_messages (g (cond b mine [])) old)) k
+        ∙ ap (λ xs. with_messages xs (with_messages (g mine) old)) none
+        ∙ sym (ap (λ b. with_messages (g (cond (b || d == e) mine [])) old) k)
     by false b k j =
-        ap (λ c. with_messages (g (cond (d == e) ms [])) (with_messages (g (cond c ms [])) old)) k
-        ∙ ap (λ xs. with_messages (g (cond (d == e) ms [])) (with_messages xs old)) none
-        ∙ sym (ap (λ c. with_messages (g (cond (c || d == e) ms [])) old) k)
+        ap (λ c. with_messages (g (cond (d == e) mine [])) (with_messages (g (cond c mine [])) old)) k
+        ∙ ap (λ xs. with_messages (g (cond (d == e) mine [])) (with_messages xs old)) none
+        ∙ sym (ap (λ c. with_messages (g (cond (c || d == e) mine [])) old) k)
 
 -- one place of a list is changed so
-put-one : (all new : List MessagesState) (d : ℕ) (g : List Message → List Message) (ms : List Message) → g [] ≡ []
-    → (on_edge new d).messages ≡ with_messages (g ms) (on_edge all d).messages → ((e : ℕ) → e ≢ d → on_edge new e ≡ on_edge all e)
-    → (e : ℕ) → (on_edge new e).messages ≡ with_messages (g (sent_to (d ∷ []) e ms)) (on_edge all e).messages
-put-one all new d g ms none here others e = elim (cases_eq d e) [
-  | inl k ↦ subst (λ i. (on_edge new i).messages ≡ with_messages (g (sent_to (d ∷ []) i ms)) (on_edge all i).messages) k
-      (here ∙ sym (ap (λ xs. with_messages (g xs) (on_edge all d).messages) (one-edge d d ms ∙ cond-true (d == d) ms [] (eq-eqb d d refl))))
+put-one : (flow : Dataflow) (all new : List MessagesState) (d : ℕ) (g : List Message → List Message) (ms : List Message) → g [] ≡ []
+    → (on_edge new d).messages ≡ with_messages (g (carried flow d ms)) (on_edge all d).messages → ((e : ℕ) → e ≢ d → on_edge new e ≡ on_edge all e)
+    → (e : ℕ) → (on_edge new e).messages ≡ with_messages (g (sent_to flow (d ∷ []) e ms)) (on_edge all e).messages
+put-one flow all new d g ms none here others e = elim (cases_eq d e) [
+  | inl k ↦ subst (λ i. (on_edge new i).messages ≡ with_messages (g (sent_to flow (d ∷ []) i ms)) (on_edge all i).messages) k
+      (here ∙ sym (ap (λ xs. with_messages (g xs) (on_edge all d).messages) (one-edge flow d d ms ∙ cond-true (d == d) (carried flow d ms) [] (eq-eqb d d refl))))
   | inr n ↦
-      let none_here : sent_to (d ∷ []) e ms ≡ [] = one-edge d e ms ∙ cond-false (d == e) ms [] (false_from_ne_true (d == e) (λ k. n (eqb-true d e k))) in
+      let none_here : sent_to flow (d ∷ []) e ms ≡ [] = one-edge flow d e ms ∙ cond-false (d == e) (carried flow e ms) [] (false_from_ne_true (d == e) (λ k. n (eqb-true d e k))) in
       ap (λ (m : MessagesState). m.messages) (others e (λ k. n (sym k)))
       ∙ sym (ap (λ xs. with_messages (g xs) (on_edge all e).messages) none_here ∙ ap (λ xs. with_messages xs (on_edge all e).messages) none)
 ]
+
+-- what a part of the messages is that goes onto an edge
+pub part-carries : (flow : Dataflow) (e p : ℕ) (part : Option KeyPart) (ms : List Message) → part ≡ part_of flow p → p ≡ receiver flow e → messages_of_part part ms ≡ carried flow e ms
+part-carries flow e p part ms is here = ap (λ x. messages_of_part x ms) (is ∙ ap (part_of flow) here) ∙ sym (carried-is flow e ms)
 
 -- ---- one edge
 
@@ -82,13 +92,13 @@ none-or_some (m ∷ ms) = inr (λ k. absurd (cc))
 
 -- what is put into the queue of an edge is pending on it, and where nothing was it is among the ready edges
 pub puts-on : (old new : Running) (d : ℕ) (ms : List Message) → new ≡ with_queues new.parts.queues new.ready.edges old
-    → length new.parts.queues ≡ length old.parts.queues → queue_at new d ≡ with_messages ms (queue_at old d)
+    → length new.parts.queues ≡ length old.parts.queues → queue_at new d ≡ with_messages (carried old.flow d ms) (queue_at old d)
     → ((e : ℕ) → e ≢ d → on_edge new.parts.queues e ≡ on_edge old.parts.queues e)
     → (queue_at old d ≡ [] → IsPut d old.ready.edges new.ready.edges) → (queue_at old d ≢ [] → new.ready.edges ≡ old.ready.edges)
     → PutsOn d ms old new
 puts-on old new d ms is each here others empty full = record {
   each = each;
-  queues = put-one old.parts.queues new.parts.queues d (λ xs. xs) ms refl here others;
+  queues = put-one old.flow old.parts.queues new.parts.queues d (λ xs. xs) ms refl here others;
   ready = λ all e c.
       let there : e < length old.flow.edges = subst (λ f. e < length f.edges) (ap (λ (r : Running). r.flow) is) c.there in
       let live : is_down old (receiver old.flow e) ≡ false = sym (ap (λ (r : Running). is_down r (receiver r.flow e)) is) ∙ c.live in
@@ -110,18 +120,19 @@ puts-on old new d ms is each here others empty full = record {
 
 -- so it is after the edge is put among the ready ones, where nothing was pending
 pub puts-after : (old mid : Running) (d : ℕ) (ms : List Message) (queues : List MessagesState) → mid ≡ with_queues old.parts.queues mid.ready.edges old
-    → length queues ≡ length mid.parts.queues → (on_edge queues d).messages ≡ with_messages ms (queue_at mid d)
+    → length queues ≡ length mid.parts.queues → (on_edge queues d).messages ≡ with_messages (carried mid.flow d ms) (queue_at mid d)
     → ((e : ℕ) → e ≢ d → on_edge queues e ≡ on_edge mid.parts.queues e)
     → (queue_at old d ≡ [] → IsPut d old.ready.edges mid.ready.edges) → (queue_at old d ≢ [] → mid.ready.edges ≡ old.ready.edges)
     → PutsOn d ms old (with_queues queues mid.ready.edges mid)
 puts-after old mid d ms queues is each here others empty full =
     let same : mid.parts.queues ≡ old.parts.queues = ap (λ (r : Running). r.parts.queues) is in
     puts-on old (with_queues queues mid.ready.edges mid) d ms (ap (with_queues queues mid.ready.edges) is) (each ∙ ap length same)
-    (here ∙ ap (λ qs. with_messages ms (on_edge qs d).messages) same) (λ e n. others e n ∙ ap (λ qs. on_edge qs e) same) empty full
+    (here ∙ ap (λ (f : Dataflow). with_messages (carried f d ms) (queue_at mid d)) (ap (λ (r : Running). r.flow) is)
+    ∙ ap (λ qs. with_messages (carried old.flow d ms) (on_edge qs d).messages) same) (λ e n. others e n ∙ ap (λ qs. on_edge qs e) same) empty full
 
 -- what is put into the log of an edge is logged on it
 pub logs-on : (old new : Running) (d : ℕ) (ms : List Message) → length new.parts.logs ≡ length old.parts.logs
-    → log_at new d ≡ with_messages (messages_outside (inside (front_of old.parts.low (receiver old.flow d))) ms) (log_at old d)
+    → log_at new d ≡ with_messages (messages_outside (inside (front_of old.parts.low (receiver old.flow d))) (carried old.flow d ms)) (log_at old d)
     → ((e : ℕ) → e ≢ d → on_edge new.parts.logs e ≡ on_edge old.parts.logs e) → LogsOn d ms old new
 logs-on old new d ms each here others = record {
   each = each;
@@ -131,11 +142,11 @@ logs-on old new d ms each here others = record {
     outside : ℕ → List Message → List Message
     outside e = messages_outside (inside (front_of old.parts.low (receiver old.flow e)))
 
-    by : (e : ℕ) → (d ≡ e) ⊎ (d ≢ e) → log_at new e ≡ with_messages (outside e (sent_to (d ∷ []) e ms)) (log_at old e)
-    by e (inl k) = subst (λ x. log_at new x ≡ with_messages (outside x (sent_to (d ∷ []) x ms)) (log_at old x)) k
-        (put-one old.parts.logs new.parts.logs d (outside d) ms refl here others d)
+    by : (e : ℕ) → (d ≡ e) ⊎ (d ≢ e) → log_at new e ≡ with_messages (outside e (sent_to old.flow (d ∷ []) e ms)) (log_at old e)
+    by e (inl k) = subst (λ x. log_at new x ≡ with_messages (outside x (sent_to old.flow (d ∷ []) x ms)) (log_at old x)) k
+        (put-one old.flow old.parts.logs new.parts.logs d (outside d) ms refl here others d)
     by e (inr n) =
-        let none_here : sent_to (d ∷ []) e ms ≡ [] = one-edge d e ms ∙ cond-false (d == e) ms [] (false_from_ne_true (d == e) (λ k. n (eqb-true d e k))) in
+        let none_here : sent_to old.flow (d ∷ []) e ms ≡ [] = one-edge old.flow d e ms ∙ cond-false (d == e) (carried old.flow e ms) [] (false_from_ne_true (d == e) (λ k. n (eqb-true d e k))) in
         ap (λ (m : MessagesState). m.messages) (others e (λ k. n (sym k)))
         ∙ sym (ap (λ xs. with_messages (outside e xs) (log_at old e)) none_here)
 
@@ -169,13 +180,15 @@ pub sends-nothing : (es : List ℕ) (again : Bool) (running : Running) → Sends
 sends-nothing es again running = record {
   queues_each = refl;
   logs_each = refl;
-  queues = λ e k. ap (λ ms. with_messages ms (queue_at running e)) (sym (cond-same (is_one_of e es) []));
+  queues = λ e k. ap (λ ms. with_messages ms (queue_at running e)) (sym (none e));
   down = λ e k. refl;
-  logs = λ k e. ap (λ ms. with_messages (messages_outside (inside (front_of running.parts.low (receiver running.flow e))) ms) (log_at running e))
-      (sym (cond-same (is_one_of e es) []));
+  logs = λ k e. ap (λ ms. with_messages (messages_outside (inside (front_of running.parts.low (receiver running.flow e))) ms) (log_at running e)) (sym (none e));
   logs_stay = λ k e. refl;
   ready = λ all. all;
 }
+  where
+    none : (e : ℕ) → sent_to running.flow es e [] ≡ []
+    none e = ap (λ ms. cond (is_one_of e es) ms []) (carried-none running.flow e) ∙ cond-same (is_one_of e es) []
 
 -- these are sent on one edge more, that is none of those before
 pub sends-more : (es more : List ℕ) (d : ℕ) (again : Bool) (ms : List Message) (old mid new : Running)
@@ -185,17 +198,20 @@ sends-more es more d again ms old mid new is fresh c a b =
     let down : (e : ℕ) → is_down mid (receiver mid.flow e) ≡ is_down old (receiver old.flow e) = λ e. ap (λ (r : Running). is_down r (receiver r.flow e)) c in
     let low : (e : ℕ) → front_of mid.parts.low (receiver mid.flow e) ≡ front_of old.parts.low (receiver old.flow e) =
     λ e. ap (λ (r : Running). front_of r.parts.low (receiver r.flow e)) c in
+    let flow : mid.flow ≡ old.flow = changes-flow old mid c in
     record {
       queues_each = b.queues_each ∙ a.queues_each;
       logs_each = b.logs_each ∙ a.logs_each;
-      queues = λ e k. b.queues e (down e ∙ k) ∙ ap (with_messages (sent_to (d ∷ []) e ms)) (a.queues e k)
-          ∙ sent-more es more d e (λ xs. xs) ms (queue_at old e) refl (is e) fresh;
+      queues = λ e k. b.queues e (down e ∙ k) ∙ ap (λ f. with_messages (sent_to f (d ∷ []) e ms) (queue_at mid e)) flow
+          ∙ ap (with_messages (sent_to old.flow (d ∷ []) e ms)) (a.queues e k)
+          ∙ sent-more old.flow es more d e (λ xs. xs) ms (queue_at old e) refl (is e) fresh;
       down = λ e k. b.down e (down e ∙ k) ∙ a.down e k;
       logs = λ k e.
           let outside : List Message → List Message = messages_outside (inside (front_of old.parts.low (receiver old.flow e))) in
-          b.logs k e ∙ ap (λ f. with_messages (messages_outside (inside f) (sent_to (d ∷ []) e ms)) (log_at mid e)) (low e)
-          ∙ ap (with_messages (outside (sent_to (d ∷ []) e ms))) (a.logs k e)
-          ∙ sent-more es more d e outside ms (log_at old e) refl (is e) fresh;
+          b.logs k e ∙ ap (λ f. with_messages (messages_outside (inside f) (sent_to mid.flow (d ∷ []) e ms)) (log_at mid e)) (low e)
+          ∙ ap (λ f. with_messages (outside (sent_to f (d ∷ []) e ms)) (log_at mid e)) flow
+          ∙ ap (with_messages (outside (sent_to old.flow (d ∷ []) e ms))) (a.logs k e)
+          ∙ sent-more old.flow es more d e outside ms (log_at old e) refl (is e) fresh;
       logs_stay = λ k e. b.logs_stay k e ∙ a.logs_stay k e;
       ready = λ all. b.ready (a.ready all);
     }
@@ -215,16 +231,16 @@ sends-one d again ms old mid new mid_is new_is down live logs stay = sends
     queues_are : (e : ℕ) → queue_at new e ≡ queue_at mid e
     queues_are e = ap (λ (r : Running). queue_at r e) new_is
 
-    other : (e : ℕ) → is_down old (receiver old.flow d) ≡ true → is_down old (receiver old.flow e) ≡ false → sent_to (d ∷ []) e ms ≡ []
-    other e k n = one-edge d e ms ∙ cond-false (d == e) ms []
+    other : (e : ℕ) → is_down old (receiver old.flow d) ≡ true → is_down old (receiver old.flow e) ≡ false → sent_to old.flow (d ∷ []) e ms ≡ []
+    other e k n = one-edge old.flow d e ms ∙ cond-false (d == e) (carried old.flow e ms) []
         (false_from_ne_true (d == e) (λ same. false≢true (sym n ∙ ap (λ x. is_down old (receiver old.flow x)) (sym (eqb-true d e same)) ∙ k)))
 
-    here : (e : ℕ) → is_down old (receiver old.flow d) ≡ false → is_down old (receiver old.flow e) ≡ true → sent_to (d ∷ []) e ms ≡ []
-    here e k n = one-edge d e ms ∙ cond-false (d == e) ms []
+    here : (e : ℕ) → is_down old (receiver old.flow d) ≡ false → is_down old (receiver old.flow e) ≡ true → sent_to old.flow (d ∷ []) e ms ≡ []
+    here e k n = one-edge old.flow d e ms ∙ cond-false (d == e) (carried old.flow e ms) []
         (false_from_ne_true (d == e) (λ same. false≢true (sym k ∙ ap (λ x. is_down old (receiver old.flow x)) (eqb-true d e same) ∙ n)))
 
     pending : (b : Bool) → is_down old (receiver old.flow d) ≡ b → (e : ℕ) → is_down old (receiver old.flow e) ≡ false
-        → queue_at mid e ≡ with_messages (sent_to (d ∷ []) e ms) (queue_at old e)
+        → queue_at mid e ≡ with_messages (sent_to old.flow (d ∷ []) e ms) (queue_at old e)
     pending true k e n = ap (λ (r : Running). queue_at r e) (down k) ∙ sym (ap (λ xs. with_messages xs (queue_at old e)) (other e k n))
     pending false k e n = (live k).queues e
 
@@ -254,7 +270,7 @@ sends-one d again ms old mid new mid_is new_is down live logs stay = sends
       queues = λ e n. queues_are e ∙ pending (is_down old (receiver old.flow d)) refl e n;
       down = λ e n. queues_are e ∙ idle (is_down old (receiver old.flow d)) refl e n;
       logs = λ k e. (logs k).logs e
-          ∙ ap (λ (r : Running). with_messages (messages_outside (inside (front_of r.parts.low (receiver r.flow e))) (sent_to (d ∷ []) e ms)) (log_at r e)) mid_is;
+          ∙ ap (λ (r : Running). with_messages (messages_outside (inside (front_of r.parts.low (receiver r.flow e))) (sent_to r.flow (d ∷ []) e ms)) (log_at r e)) mid_is;
       logs_stay = λ k e. ap (λ (r : Running). log_at r e) (stay k) ∙ ap (λ (r : Running). log_at r e) mid_is;
       ready = λ all. after (readies (is_down old (receiver old.flow d)) refl all);
     }
@@ -290,10 +306,9 @@ sends-next flow p i d again ms old mid new l is c a b =
 
 -- what is sent on the out-edges of an event's node is what is put on each edge
 sent-put : (flow : Dataflow) (v : Event) (sent : List Message) (e : ℕ) → e < length flow.edges
-    → sent_to (out_edges flow (event_node flow v)) e sent ≡ put_on flow e v sent
+    → sent_to flow (out_edges flow (event_node flow v)) e sent ≡ put_on flow e v sent
 sent-put flow v sent e l =
-    ap (λ b. cond b sent []) (out_edge-all flow (event_node flow v) e l ∙ eqb-sym (sender flow e) (event_node flow v))
-    ∙ ap (λ ms. cond (event_node flow v == sender flow e) ms []) (sym (carried-all flow e sent))
+    ap (λ b. cond b (carried flow e sent) []) (out_edge-all flow (event_node flow v) e l ∙ eqb-sym (sender flow e) (event_node flow v))
 
 -- the edges follow an event whose message is pending no more, and at which its node then sends these
 pub edges-follow : (v : Event) (sent : List Message) (old mid new : Running) → mid.flow ≡ old.flow → mid.parts.low ≡ old.parts.low
@@ -308,11 +323,14 @@ edges-follow v sent old mid new flow low failed live idle logs s =
     ap (λ bs. slice_index_or bs (receiver mid.flow e) false) failed ∙ ap (λ f. is_down old (receiver f e)) flow in
     let outside : ℕ → List Message → List Message = λ e. messages_outside (inside (front_of old.parts.low (receiver old.flow e))) in
     record {
-      queues = λ e l k. s.queues e (down e ∙ k) ∙ ap (λ ms. with_messages ms (queue_at mid e)) (sent-put old.flow v sent e l)
+      queues = λ e l k. s.queues e (down e ∙ k)
+          ∙ ap (λ f. with_messages (sent_to f (out_edges old.flow (event_node old.flow v)) e sent) (queue_at mid e)) flow
+          ∙ ap (λ ms. with_messages ms (queue_at mid e)) (sent-put old.flow v sent e l)
           ∙ ap (with_messages (put_on old.flow e v sent)) (live e k);
       down = λ e k. s.down e (down e ∙ k) ∙ idle e k;
       logs = λ k e l. s.logs k e
-          ∙ ap (λ f. with_messages (messages_outside (inside f) (sent_to (out_edges old.flow (event_node old.flow v)) e sent)) (log_at mid e))
+          ∙ ap (λ g. with_messages (messages_outside (inside (front_of mid.parts.low (receiver mid.flow e))) (sent_to g (out_edges old.flow (event_node old.flow v)) e sent)) (log_at mid e)) flow
+          ∙ ap (λ f. with_messages (messages_outside (inside f) (sent_to old.flow (out_edges old.flow (event_node old.flow v)) e sent)) (log_at mid e))
           (ap (λ fs. front_of fs (receiver mid.flow e)) low ∙ ap (λ f. front_of old.parts.low (receiver f e)) flow)
           ∙ ap (λ ms. with_messages (outside e ms) (log_at mid e)) (sent-put old.flow v sent e l)
           ∙ ap (with_messages (outside e (put_on old.flow e v sent))) (logs e);

@@ -9,6 +9,8 @@ use Rattle.fw_frontier.specs.Front.{inside}
 use Rattle.fw_flow.specs.declared.event.Message.{Message}
 use Rattle.fw_flow.specs.Dataflow.{Dataflow, bounds_of, is_one_of, out_edges, receiver, sender}
 use Rattle.fw_flow.proofs.OutEdgeLaws.{out_edges-from}
+use Rattle.fw_model.specs.Carried.{carried}
+use Rattle.fw_model.proofs.CarriedLaws.{carried-each}
 use Rattle.fw_model.specs.Filtering.{messages_outside}
 use Rattle.fw_model.specs.Machine.{front_of}
 use Rattle.fw_model.specs.SortedMessages.{with_messages}
@@ -57,19 +59,20 @@ shaped-sent old new es again ms s c d fits = subst IsShaped (sym c) (shaped-edge
     (λ e. pending e (is_down old (receiver old.flow e)) refl) (λ e. logged e again refl)
     (λ e k. d.ready s.ready.edges e (subst (λ (r : Running). CanDeliver r e) (sym c) k)))
   where
-    here : (e : ℕ) → AllByRecursion (IsOnEdge old.flow e) (sent_to es e ms)
-    here e = cond_both (is_one_of e es) ms [] (AllByRecursion (IsOnEdge old.flow e)) (fits e) (λ k. tt)
+    here : (e : ℕ) → AllByRecursion (IsOnEdge old.flow e) (sent_to old.flow es e ms)
+    here e =
+        cond_both (is_one_of e es) (carried old.flow e ms) [] (AllByRecursion (IsOnEdge old.flow e)) (λ k. carried-each old.flow e (IsOnEdge old.flow e) ms (fits e k)) (λ k. tt)
 
     pending : (e : ℕ) (b : Bool) → is_down old (receiver old.flow e) ≡ b → AllByRecursion (IsOnEdge old.flow e) (queue_at new e)
     pending e true k = subst (AllByRecursion (IsOnEdge old.flow e)) (sym (d.down e k)) (s.queues e)
-    pending e false k = subst (AllByRecursion (IsOnEdge old.flow e)) (sym (d.queues e k)) (each-put (IsOnEdge old.flow e) (sent_to es e ms) (queue_at old e) (here e) (s.queues e))
+    pending e false k = subst (AllByRecursion (IsOnEdge old.flow e)) (sym (d.queues e k)) (each-put (IsOnEdge old.flow e) (sent_to old.flow es e ms) (queue_at old e) (here e) (s.queues e))
 
     logged : (e : ℕ) (b : Bool) → again ≡ b → AllByRecursion (IsOnEdge old.flow e) (log_at new e)
     logged e true k =
         let f = front_of old.parts.low (receiver old.flow e) in
         subst (AllByRecursion (IsOnEdge old.flow e)) (sym (d.logs k e))
-        (each-put (IsOnEdge old.flow e) (messages_outside (inside f) (sent_to es e ms)) (log_at old e)
-        (each-kept (IsOnEdge old.flow e) _ (sent_to es e ms) (here e)) (s.logs e))
+        (each-put (IsOnEdge old.flow e) (messages_outside (inside f) (sent_to old.flow es e ms)) (log_at old e)
+        (each-kept (IsOnEdge old.flow e) _ (sent_to old.flow es e ms) (here e)) (s.logs e))
     logged e false k = subst (AllByRecursion (IsOnEdge old.flow e)) (sym (d.logs_stay k e)) (s.logs e)
 
 -- messages at stamps of an edge's domain, whose causes are of its sender's, are on the edge

@@ -10,6 +10,7 @@ use Rattle.fw_lemmas.proofs.Each.{each-append}
 use Rattle.fw_time.specs.Stamp.{Stamp, in_domain, same, stamp_cmp}
 use Rattle.fw_time.specs.declared.stamp.Bounds.{Bounds}
 use Rattle.fw_time.proofs.StampLaws.{same-refl}
+use Rattle.fw_bag.specs.declared.rec.Rec.{Rec}
 use Rattle.fw_frontier.specs.Front.{inside}
 use Rattle.fw_flow.specs.declared.choice.Stamps.{Stamps}
 use Rattle.fw_flow.specs.declared.event.Message.{Message}
@@ -143,7 +144,7 @@ shaped-output old new o change s is outputs put =
 -- ---- what is owed
 
 -- a node that is owed a notification after a delivery was owed one before, or is the receiver, which is put among those that are ready
-pub owing-delivered : (old : Running) (traces : Traces) (progress : Standing) (d : ℕ) (at : Stamp) (sent : List Stamp) → IsShaped old
+pub owing-delivered : (old : Running) (traces : Traces) (progress : Standing) (d : ℕ) (at : Stamp) (sent : List (Stamp × Rec)) → IsShaped old
     → DeliversOne old.flow d at sent old.progress.counts progress.counts
     → (is_notified_kind (kind_of old.flow (receiver old.flow d)) ≡ true → Contains old.ready.owing (receiver old.flow d))
     → (q : ℕ) → IsOwing (with_told traces progress old) q → Contains old.ready.owing q
@@ -157,7 +158,7 @@ owing-delivered old traces progress d at sent s t put q c = elim (cases_Bool (is
 ]
 
 -- an injection owes nothing
-pub owing-injected : (old : Running) (traces : Traces) (progress : Standing) (p : ℕ) (sent : List Stamp) → IsShaped old
+pub owing-injected : (old : Running) (traces : Traces) (progress : Standing) (p : ℕ) (sent : List (Stamp × Rec)) → IsShaped old
     → IsInjected old.flow p sent old.progress.counts progress.counts → (q : ℕ) → IsOwing (with_told traces progress old) q → Contains old.ready.owing q
 owing-injected old traces progress p sent s t q c =
     s.ready.owing q (record { there = c.there; live = c.live; some = λ none. c.some (ap (λ xs. slice_index_or xs q []) t.owed ∙ none) })
@@ -180,7 +181,7 @@ none-more at bounds (e ∷ es) h =
     absurd (omega arith)
 
 -- a notification owes nothing more
-pub owing-notified : (old : Running) (traces : Traces) (progress : Standing) (p : ℕ) (at : Stamp) (sent : List Stamp) → IsShaped old
+pub owing-notified : (old : Running) (traces : Traces) (progress : Standing) (p : ℕ) (at : Stamp) (sent : List (Stamp × Rec)) → IsShaped old
     → IsNotified old.flow p at sent old.progress.counts progress.counts → (q : ℕ) → IsOwing (with_told traces progress old) q → Contains old.ready.owing q
 owing-notified old traces progress p at sent s t q c =
     s.ready.owing q (record {

@@ -23,10 +23,11 @@ use Rattle.fw_model.specs.Steps.{with_event}
 use Rattle.fw_border.specs.Outputs.{OutputState, output_at, new_output, with_output, with_rec_at}
 use Rattle.fw_border.specs.Sources.{SourceState}
 use Rattle.fw_node.specs.declared.node.Node.{Node}
+use Rattle.fw_node.specs.Answers.{without_causes}
 use Rattle.fw_node.specs.NodeOf.{CanBeSent}
 use Rattle.fw_progress.specs.declared.traces.Traces.{Traces}
 use Rattle.fw_progress.specs.History.{FollowsEvent}
-use Rattle.fw_progress.specs.Progress.{CanSend, Standing}
+use Rattle.fw_progress.specs.Progress.{CanSend, Standing, stamps_of_recs}
 use Rattle.fw_progress.specs.Trace.{TracesFollow}
 use Rattle.fw_stands.specs.Parts.{has_table, IsTableIn, IsOutputOf, IsSourceOf}
 use Rattle.fw_stands.proofs.EventAnswerLaws.{outputs-send_nothing}
@@ -34,7 +35,7 @@ use Rattle.fw_stands.proofs.EventBorderLaws.{outputs-take_in, sources-stay}
 use Rattle.fw_stands.proofs.EventTableLaws.{no-tables_stay, notices-can_be_taken}
 use Rattle.fw_running.specs.declared.running.Running.{Running}
 use Rattle.fw_running.specs.Kept.{queue_at, log_at, table_of, source_of, output_of, is_down, with_tables}
-use Rattle.fw_events.specs.AfterEvent.{stamps_in, EdgesFollow, OwnFollow, TakesEvent}
+use Rattle.fw_events.specs.AfterEvent.{EdgesFollow, OwnFollow, TakesEvent}
 use Rattle.fw_events.specs.Sending.{with_queues, with_logs, ChangesEdges, SendsOn}
 use Rattle.fw_events.specs.Taking.{with_outputs, with_owing, with_told, HearsOf, KeepsRec, TakesOff, TableTakes, TellsOf}
 use Rattle.fw_events.proofs.SendingLaws.{edges-follow, sends-nothing}
@@ -59,15 +60,15 @@ taken-down d m old a t live e k = t.others e (λ is. false≢true (sym live ∙ 
 -- ---- a node with a table
 
 -- what the calls for a node with a table make of what is kept, one after the other
-pub hears-of : (v : Event) (p : ℕ) (stamps : List Stamp) (sent : List Message) (old noted taken put new : Running)
-    → p ≡ event_node old.flow v → stamps ≡ stamps_in sent
+pub hears-of : (v : Event) (p : ℕ) (recs : List (Stamp × Rec)) (sent : List Message) (old noted taken put new : Running)
+    → p ≡ event_node old.flow v → recs ≡ without_causes sent
     → noted ≡ with_owing noted.ready.owing old → taken ≡ with_tables taken.parts.tables noted
     → ((q : ℕ) → q ≢ p → table_of taken q ≡ table_of noted q)
     → TableTakes noted.flow v sent (table_of noted p) (table_of taken p)
     → ChangesEdges taken put
     → SendsOn (out_edges taken.flow p) (can_resend (policy_of taken.flow p)) sent taken put
-    → new ≡ with_told new.traces new.progress put → TellsOf v stamps put new → HearsOf v old new
-hears-of v p stamps sent old noted taken put new here is note take others table changes sends tell told =
+    → new ≡ with_told new.traces new.progress put → TellsOf v recs put new → HearsOf v old new
+hears-of v p recs sent old noted taken put new here is note take others table changes sends tell told =
     let n = event_node old.flow v in
     let flow : noted.flow ≡ old.flow = ap (λ (r : Running). r.flow) note in
     let flows : taken.flow ≡ old.flow = ap (λ (r : Running). r.flow) take ∙ flow in
@@ -86,7 +87,7 @@ hears-of v p stamps sent old noted taken put new here is note take others table 
       sends = subst (λ q. SendsOn (out_edges old.flow q) (can_resend (policy_of old.flow q)) sent taken put) here
           (subst (λ f. SendsOn (out_edges f p) (can_resend (policy_of f p)) sent taken put) flows sends);
       telling = tell;
-      told = subst (λ ts. TellsOf v ts put new) is told;
+      told = subst (λ rs. TellsOf v rs put new) is told;
     }
 
 -- a node that takes an event in which is no injection, and whose message is pending no more, takes the event
@@ -118,10 +119,10 @@ heard-is_taken v old a new taking live idle t no_output no_injection = record {
     logs_stay = edges.logs_stay;
   });
   own = own;
-  progress = subst (λ f. FollowsEvent f v (stamps_in t.sent) old.progress new.progress) (to_put Dataflow (λ r. r.flow) refl refl refl)
-      (subst (λ p. FollowsEvent t.put.flow v (stamps_in t.sent) p new.progress) (to_put Standing (λ r. r.progress) refl refl refl) t.told.progress);
-  traces = subst (λ f. TracesFollow f v (stamps_in t.sent) old.traces new.traces) (to_put Dataflow (λ r. r.flow) refl refl refl)
-      (subst (λ p. TracesFollow t.put.flow v (stamps_in t.sent) p new.traces) (to_put Traces (λ r. r.traces) refl refl refl) t.told.traces);
+  progress = subst (λ f. FollowsEvent f v (without_causes t.sent) old.progress new.progress) (to_put Dataflow (λ r. r.flow) refl refl refl)
+      (subst (λ p. FollowsEvent t.put.flow v (without_causes t.sent) p new.progress) (to_put Standing (λ r. r.progress) refl refl refl) t.told.progress);
+  traces = subst (λ f. TracesFollow f v (without_causes t.sent) old.traces new.traces) (to_put Dataflow (λ r. r.flow) refl refl refl)
+      (subst (λ p. TracesFollow t.put.flow v (without_causes t.sent) p new.traces) (to_put Traces (λ r. r.traces) refl refl refl) t.told.traces);
 }
   where
     k_of : event_node a.flow v ≡ event_node old.flow v
@@ -293,9 +294,11 @@ keeps-rec d m at rec o old between new at_is rec_is here changing output telling
 -- ---- what is sent and told
 
 -- what a node can send it can tell, of the same flow
-pub can-tell : (flow now : Dataflow) (p q : ℕ) (stamps told : List Stamp) → now ≡ flow → p ≡ q → told ≡ stamps → CanBeSent flow p stamps → CanSend now q told
-can-tell flow now p q stamps told same here is can =
-    subst (λ (f : Dataflow). CanSend f q told) (sym same) (subst (λ n. CanSend flow n told) here (subst (CanSend flow p) (sym is) can))
+pub can-tell : (flow now : Dataflow) (p q : ℕ) (sent told : List (Stamp × Rec)) → now ≡ flow → p ≡ q → told ≡ sent → CanBeSent flow p (stamps_of_recs sent)
+    → CanSend now q (stamps_of_recs told)
+can-tell flow now p q sent told same here is can =
+    subst (λ (f : Dataflow). CanSend f q (stamps_of_recs told)) (sym same)
+    (subst (λ n. CanSend flow n (stamps_of_recs told)) here (subst (λ rs. CanSend flow p (stamps_of_recs rs)) (sym is) can))
 
 -- a node that was put among those that may be owed a notification is among them while tables and edges are changed
 pub still-owing : (d p : ℕ) (old noted taken put : Running) → p ≡ receiver old.flow d → noted ≡ with_owing noted.ready.owing old

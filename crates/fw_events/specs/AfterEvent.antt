@@ -1,6 +1,5 @@
 -- What an event makes of what an engine keeps: its node injects a batch, takes a message in or is notified.
-use Rattle.std.specs.Prelude.{◌≡◌, ℕ, ◌<◌, true, false, ◌==◌, List, length, map, Option, Some}
-use Rattle.fw_time.specs.Stamp.{Stamp}
+use Rattle.std.specs.Prelude.{◌≡◌, ℕ, ◌<◌, true, false, ◌==◌, List, length, Option, Some}
 use Rattle.fw_frontier.specs.Front.{inside}
 use Rattle.fw_flow.specs.declared.event.Event.{Event}
 use Rattle.fw_flow.specs.declared.event.Message.{Message}
@@ -18,6 +17,7 @@ use Rattle.fw_model.specs.SortedMessages.{with_messages}
 use Rattle.fw_model.specs.Steps.{Effect, LeadsTo, with_event}
 use Rattle.fw_record.specs.declared.record.Event.{Event as Logged}
 use Rattle.fw_keep.specs.Stored.{Records}
+use Rattle.fw_node.specs.Answers.{without_causes}
 use Rattle.fw_progress.specs.History.{FollowsEvent}
 use Rattle.fw_progress.specs.Trace.{TracesFollow}
 use Rattle.fw_stands.specs.Entries.{AreBasesOf}
@@ -28,10 +28,6 @@ use Rattle.fw_running.specs.declared.running.Running.{Running}
 use Rattle.fw_running.specs.Kept.{queue_at, log_at, table_of, source_of, output_of, is_down}
 use Rattle.fw_running.specs.Logging.{LogsEvent}
 use Rattle.fw_running.specs.Stands.{Stands}
-
--- the stamps of what is sent
-abbrev pub stamps_in : List Message → List Stamp
-stamps_in sent = map (λ (m : Message). m.at) sent
 
 -- What an event at which its node sends these makes of the edges: the message that it delivers is pending no more, what it sends is
 -- pending where the receiver is not failed, and where the node can send it again what lies outside the receiver's low watermark is
@@ -77,8 +73,8 @@ pub record TakesEvent (v : Event) (old new : Running) : Type 0 where
   pub others : LeavesOthers old.flow v old new
   pub edges : EdgesFollow old.flow v sent old new
   pub own : OwnFollow v sent old new
-  pub progress : FollowsEvent old.flow v (stamps_in sent) old.progress new.progress
-  pub traces : TracesFollow old.flow v (stamps_in sent) old.traces new.traces
+  pub progress : FollowsEvent old.flow v (without_causes sent) old.progress new.progress
+  pub traces : TracesFollow old.flow v (without_causes sent) old.traces new.traces
 
 -- entries and records stand for the writes of a state
 abbrev pub WritesStand : System → Machine → Running → Option Records → Type 0

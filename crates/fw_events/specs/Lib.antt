@@ -1,5 +1,5 @@
 pub mod AfterEvent
 pub mod Noticing
 pub mod Sending
-pub mod SentStamps
+pub mod ToldSends
 pub mod Taking

@@ -19,6 +19,7 @@ use Rattle.fw_border.specs.Outputs.{OutputsState, with_output, with_rec_at}
 use Rattle.fw_border.specs.Sources.{SourceState, next_batch}
 use Rattle.fw_node.specs.declared.node.Node.{Node}
 use Rattle.fw_node.specs.declared.sends.Sends.{Sends}
+use Rattle.fw_node.specs.Answers.{without_causes}
 use Rattle.fw_node.specs.Sends.{messages_of}
 use Rattle.fw_progress.specs.declared.traces.Traces.{Traces}
 use Rattle.fw_progress.specs.History.{FollowsEvent}
@@ -28,7 +29,6 @@ use Rattle.fw_stands.specs.Events.{at_epoch, AreSent}
 use Rattle.fw_stands.specs.Parts.{IsTableIn}
 use Rattle.fw_running.specs.declared.running.Running.{Running}
 use Rattle.fw_running.specs.Kept.{queue_at, table_of, with_tables}
-use Rattle.fw_events.specs.AfterEvent.{stamps_in}
 use Rattle.fw_events.specs.Sending.{ChangesEdges, SendsOn}
 
 -- what is kept with these nodes as owing
@@ -66,10 +66,10 @@ TableTakes flow v sent old new =
     → IsTableIn sys state (event_node sys.flow v) old
     → AreSent sys (events state.history) v sent × IsTableIn sys (with_event sys state v) (event_node sys.flow v) new
 
--- Traces and progress are told of an event at which its node sends at these stamps.
-pub record TellsOf (v : Event) (stamps : List Stamp) (old new : Running) : Type 0 where
-  pub progress : FollowsEvent old.flow v stamps old.progress new.progress
-  pub traces : TracesFollow old.flow v stamps old.traces new.traces
+-- Traces and progress are told of an event at which its node sends these recs.
+pub record TellsOf (v : Event) (sent : List (Stamp × Rec)) (old new : Running) : Type 0 where
+  pub progress : FollowsEvent old.flow v sent old.progress new.progress
+  pub traces : TracesFollow old.flow v sent old.traces new.traces
   pub settled : new.progress.settled ≡ old.progress.settled
   pub kept : new.progress.kept ≡ old.progress.kept
 
@@ -84,7 +84,7 @@ pub record HearsOf (v : Event) (old new : Running) : Type 0 where
   pub sending : ChangesEdges taken put
   pub sends : SendsOn (out_edges old.flow (event_node old.flow v)) (can_resend (policy_of old.flow (event_node old.flow v))) sent taken put
   pub telling : new ≡ with_told new.traces new.progress put
-  pub told : TellsOf v (stamps_in sent) put new
+  pub told : TellsOf v (without_causes sent) put new
 
 -- An output keeps the rec of a message, and traces and progress are told of its delivery on edge d.
 pub record KeepsRec (d : ℕ) (m : Message) (old new : Running) : Type 0 where

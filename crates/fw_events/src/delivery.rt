@@ -17,7 +17,7 @@ ghost use Rattle.fw_record.specs.declared.record.Event.TheVariants as logged;
 ghost use Rattle.fw_keep.specs.Stored.{IsStored};
 ghost use Rattle.fw_node.specs.NodeOf.{CanBeSent, IsNodeOf, stamps_of};
 ghost use Rattle.fw_node.specs.Sends.{messages_of};
-ghost use Rattle.fw_progress.specs.Progress.{CanSend};
+ghost use Rattle.fw_progress.specs.Progress.{CanSend, stamps_of_recs};
 ghost use Rattle.fw_rollback.specs.Tables.{table_at};
 ghost use Rattle.fw_rollback.specs.Edges.{on_edge};
 ghost use Rattle.fw_stands.specs.Events.{asked_of_queue, next_queued};
@@ -217,8 +217,8 @@ fn take_by_table(
     let Some(sends) = table_takes(running, edge, node, at, rec)? else {
         return Ok(());
     };
-    let stamps = send(running, node, at, &sends)?;
-    tell_delivered(running, edge, at, stamps.as_slice())
+    let sent = send(running, node, at, &sends)?;
+    tell_delivered(running, edge, at, sent.as_slice())
 }
 
 // A node that is notified is put among those that may be owed a notification.
@@ -317,17 +317,17 @@ fn put_rec(running: &mut Running, output: NodeId, at: &Stamp, rec: Rec) -> Resul
     running.ready.put_output(output)
 }
 
-// Traces and progress are told of a delivery, at which the receiver sends at these stamps.
+// Traces and progress are told of a delivery, at which the receiver sends these recs.
 fn tell_delivered(
     running: &mut Running,
     edge: EdgeId,
     at: &Stamp,
-    sent: &[Stamp],
+    sent: &[(Stamp, Rec)],
 ) -> Result<(), AllocError>
     requires shaped { IsShaped running.old }
     requires there { edge < length running.old.flow.edges }
     requires at { in_domain (bounds_of running.old.flow (receiver running.old.flow edge)) at.now ≡ true }
-    requires sent { CanSend running.old.flow (receiver running.old.flow edge) sent.now }
+    requires sent { CanSend running.old.flow (receiver running.old.flow edge) (stamps_of_recs sent.now) }
     requires owing { is_notified_kind (kind_of running.old.flow (receiver running.old.flow edge)) ≡ true
         → Contains running.old.ready.owing (receiver running.old.flow edge) }
     ensures others { running.new ≡ with_told running.new.traces running.new.progress running.old }

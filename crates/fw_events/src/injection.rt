@@ -3,7 +3,7 @@ ghost use Rattle.std.specs.Prelude.{◌≡◌, ◌<◌, ◌↔◌, true, length,
 ghost use Rattle.fw_flow.specs.declared.event.Event.TheVariants as events;
 ghost use Rattle.fw_flow.specs.declared.step.Step.TheVariants as steps;
 ghost use Rattle.fw_flow.specs.Dataflow.{kind_of, is_input_kind};
-ghost use Rattle.fw_progress.specs.Progress.{CanSend};
+ghost use Rattle.fw_progress.specs.Progress.{CanSend, stamps_of_recs};
 ghost use Rattle.fw_running.specs.Drawn.{supply};
 ghost use Rattle.fw_running.specs.Kept.{source_of};
 ghost use Rattle.fw_running.specs.Shaped.{IsShaped};
@@ -63,20 +63,20 @@ fn inject_batch(
     ensures takes { OnOk result (TakesEvent (events.Inject source epoch) running.old running.new) }
 {
     running.parts.sources.advance(source);
-    let stamps = send(running, source, &Stamp::new(&[epoch]), sends)?;
-    tell_injected(running, source, epoch, stamps.as_slice())
+    let sent = send(running, source, &Stamp::new(&[epoch]), sends)?;
+    tell_injected(running, source, epoch, sent.as_slice())
 }
 
-// Traces and progress are told of an injection, at which the input sends at these stamps.
+// Traces and progress are told of an injection, at which the input sends these recs.
 fn tell_injected(
     running: &mut Running,
     source: NodeId,
     epoch: u32,
-    sent: &[Stamp],
+    sent: &[(Stamp, Rec)],
 ) -> Result<(), AllocError>
     requires shaped { IsShaped running.old }
     requires there { source < length running.old.flow.nodes }
-    requires sent { CanSend running.old.flow source sent.now }
+    requires sent { CanSend running.old.flow source (stamps_of_recs sent.now) }
     ensures others { running.new ≡ with_told running.new.traces running.new.progress running.old }
     ensures told { OnOk result (TellsOf (events.Inject source epoch) sent.now running.old running.new) }
     ensures shaped { OnOk result (IsShaped running.new) }

@@ -6,7 +6,7 @@ mod injection;
 mod logging;
 mod notification;
 mod sending;
-mod stamps;
+mod told;
 
 pub use delivery::{can_deliver, deliver};
 pub use injection::{inject, may_inject};

@@ -11,7 +11,7 @@ ghost use Rattle.fw_record.specs.declared.record.Event.TheVariants as logged;
 ghost use Rattle.fw_keep.specs.Stored.{IsStored};
 ghost use Rattle.fw_node.specs.NodeOf.{CanBeSent, IsNodeOf, stamps_of};
 ghost use Rattle.fw_node.specs.Sends.{messages_of};
-ghost use Rattle.fw_progress.specs.Progress.{CanSend};
+ghost use Rattle.fw_progress.specs.Progress.{CanSend, stamps_of_recs};
 ghost use Rattle.fw_rollback.specs.Tables.{table_at};
 ghost use Rattle.fw_running.specs.BroughtUp.{IsBroughtUp};
 ghost use Rattle.fw_running.specs.Drawn.{DrawsAtMost, may_draw};
@@ -25,6 +25,7 @@ ghost use Rattle.fw_events.specs.Taking.{with_told, TableTakes, TellsOf};
 
 use crate::logging::{log_event, logs_events};
 use crate::sending::send;
+use fw_bag::Rec;
 use fw_flow::NodeId;
 use fw_flow::laws::flow_is_well_formed;
 use fw_node::Sends;
@@ -177,8 +178,8 @@ fn hear(running: &mut Running, node: NodeId, at: &Stamp) -> Result<(), AllocErro
     let Some(sends) = table_hears(running, node, at)? else {
         return Ok(());
     };
-    let stamps = send(running, node, at, &sends)?;
-    tell_notified(running, node, at, stamps.as_slice())
+    let sent = send(running, node, at, &sends)?;
+    tell_notified(running, node, at, sent.as_slice())
 }
 
 // The table of a node hears of a stamp, and what it sends is answered; none where the node has no table.
@@ -217,16 +218,16 @@ fn take_notice(tables: &mut Tables, node: NodeId, at: &Stamp) -> Result<Option<S
     Ok(Some(table.notify(at)?))
 }
 
-// Traces and progress are told of a notification, at which the node sends at these stamps.
+// Traces and progress are told of a notification, at which the node sends these recs.
 fn tell_notified(
     running: &mut Running,
     node: NodeId,
     at: &Stamp,
-    sent: &[Stamp],
+    sent: &[(Stamp, Rec)],
 ) -> Result<(), AllocError>
     requires shaped { IsShaped running.old }
     requires there { node < length running.old.flow.nodes }
-    requires sent { CanSend running.old.flow node sent.now }
+    requires sent { CanSend running.old.flow node (stamps_of_recs sent.now) }
     ensures others { running.new ≡ with_told running.new.traces running.new.progress running.old }
     ensures told { OnOk result (TellsOf (events.Notify node at.now) sent.now running.old running.new) }
     ensures shaped { OnOk result (IsShaped running.new) }

@@ -1,23 +1,25 @@
 //! What an event makes a node send goes to its out-edges.
-ghost use Rattle.std.specs.Prelude.{◌≡◌, ◌≢◌, ◌<◌, ◌↔◌, ◌∷◌, ℕ, [], true, false, length, IsTrue, IfOk, OnOk};
+ghost use Rattle.std.specs.Prelude.{◌≡◌, ◌≢◌, ◌<◌, ◌↔◌, ◌∷◌, ◌&&◌, not, ℕ, [], true, false, length, IsTrue, IfOk, OnOk};
 ghost use Rattle.fw_time.specs.Stamp.{in_domain};
 ghost use Rattle.fw_frontier.specs.Front.{inside};
 ghost use Rattle.fw_flow.specs.Dataflow.{bounds_of, out_edges, policy_of, receiver};
 ghost use Rattle.fw_flow.specs.Restoring as restoring;
+ghost use Rattle.fw_flow.specs.KeyParts.{is_of_part_if};
+ghost use Rattle.fw_model.specs.Carried.{messages_of_part};
 ghost use Rattle.fw_model.specs.Filtering.{messages_outside};
 ghost use Rattle.fw_model.specs.SortedMessages.{with_messages};
 ghost use Rattle.fw_node.specs.NodeOf.{CanBeSent, stamps_of};
-ghost use Rattle.fw_node.specs.Sends.{messages_of};
+ghost use Rattle.fw_node.specs.Sends.{messages_of, sends_list};
 ghost use Rattle.fw_rollback.specs.Edges.{on_edge};
 ghost use Rattle.fw_running.specs.Kept.{queue_at, is_down};
 ghost use Rattle.fw_running.specs.Places.{IsPut};
 ghost use Rattle.fw_running.specs.Shaped.{IsShaped};
 ghost use Rattle.fw_events.specs.Sending.{with_queues, with_logs, ChangesEdges, PutsOn, LogsOn, SendsOn};
-ghost use Rattle.fw_events.specs.SentStamps.{stamps_in_order};
+ghost use Rattle.fw_events.specs.ToldSends.{told_list};
 
-use crate::stamps::SentStamps;
+use crate::told::ToldSends;
 use fw_edge::{MsgLog, Queue};
-use fw_flow::{EdgeId, NodeId};
+use fw_flow::{EdgeId, KeyPart, Message, NodeId, is_of_part};
 use fw_frontier::Front;
 use fw_node::Sends;
 use fw_rollback::{Logs, Queues};
@@ -25,27 +27,27 @@ use fw_running::Running;
 use fw_time::Stamp;
 use std::alloc::AllocError;
 
-/// What an event of a node at a stamp sends is pending on each of its out-edges, and is in the log of each where the node
-/// can send again. The stamps of what is sent are handed back, as progress and traces are told them. The error is want of
+/// What an event of a node at a stamp sends is pending on each of its out-edges that carries it, and is in the log of each
+/// where the node can send again. What is sent is handed back, as progress and traces are told it. The error is want of
 /// memory.
 pub(crate) fn send(
     running: &mut Running,
     node: NodeId,
     cause: &Stamp,
     sends: &Sends,
-) -> Result<SentStamps, AllocError>
+) -> Result<ToldSends, AllocError>
     requires shaped { IsShaped running.old }
     requires there { node < length running.old.flow.nodes }
     requires cause { in_domain (bounds_of running.old.flow node) cause.now ≡ true }
     requires can_be_sent { CanBeSent running.old.flow node (stamps_of sends.now) }
-    ensures stamps { IfOk result (λ stamps. stamps_in_order stamps ≡ stamps_of sends.now) }
+    ensures recs { IfOk result (λ told. told_list told ≡ sends_list sends.now) }
     ensures others { ChangesEdges running.old running.new }
     ensures sent { OnOk result (SendsOn (out_edges running.old.flow node) (restoring.can_resend (policy_of running.old.flow node))
         (messages_of cause.now sends.now) running.old running.new) }
     ensures shaped { OnOk result (IsShaped running.new) }
 {
     send_each(running, node, cause, sends)?;
-    SentStamps::of(running.alloc, sends)
+    ToldSends::of(running.alloc, sends)
 }
 
 // What an event of a node at a stamp sends goes to one out-edge after the other.
@@ -123,7 +125,8 @@ fn put_on(
     ensures put { OnOk result (PutsOn edge (messages_of cause.now sends.now) running.old running.new) }
 {
     note_pending(running, edge)?;
-    put_in(&mut running.parts.queues, edge, cause, sends)
+    let part = running.flow.part(running.flow.dst(edge));
+    put_in(&mut running.parts.queues, edge, part, cause, sends)
 }
 
 // An edge on which nothing was pending is put among the ready ones.
@@ -148,16 +151,22 @@ pub(crate) fn nothing_pending(queues: &Queues, edge: EdgeId) -> bool
     }
 }
 
-// What is sent is pending on an edge.
-fn put_in(queues: &mut Queues, edge: EdgeId, cause: &Stamp, sends: &Sends) -> Result<(), AllocError>
+// Of what is sent that whose key is of the part is pending on an edge.
+fn put_in(
+    queues: &mut Queues,
+    edge: EdgeId,
+    part: Option<KeyPart>,
+    cause: &Stamp,
+    sends: &Sends,
+) -> Result<(), AllocError>
     requires { edge < length queues.old }
     ensures each { length queues.new ≡ length queues.old }
     ensures here { OnOk result ((on_edge queues.new edge).messages
-        ≡ with_messages (messages_of cause.now sends.now) (on_edge queues.old edge).messages) }
+        ≡ with_messages (messages_of_part part (messages_of cause.now sends.now)) (on_edge queues.old edge).messages) }
     ensures others { (e : ℕ) → e ≢ edge → on_edge queues.new e ≡ on_edge queues.old e }
 {
     match queues.get_mut(edge) {
-        Some(queue) => put_each(queue, cause, sends),
+        Some(queue) => put_each(queue, part, cause, sends),
         None => Ok(()),
     }
 }
@@ -196,14 +205,16 @@ fn log_on(
     ensures logged { OnOk result (LogsOn edge (messages_of cause.now sends.now) running.old running.new) }
 {
     let receiver = running.flow.dst(edge);
+    let part = running.flow.part(receiver);
     let low = &running.parts.low.as_slice()[receiver.place() as usize];
-    log_in(&mut running.parts.logs, edge, low, cause, sends)
+    log_in(&mut running.parts.logs, edge, part, low, cause, sends)
 }
 
-// What is sent outside a frontier is in the log of an edge.
+// Of what is sent that whose key is of the part, and which lies outside a frontier, is in the log of an edge.
 fn log_in(
     logs: &mut Logs,
     edge: EdgeId,
+    part: Option<KeyPart>,
     low: &Front,
     cause: &Stamp,
     sends: &Sends,
@@ -211,39 +222,61 @@ fn log_in(
     requires { edge < length logs.old }
     ensures each { length logs.new ≡ length logs.old }
     ensures here { OnOk result ((on_edge logs.new edge).messages
-        ≡ with_messages (messages_outside (inside low.now) (messages_of cause.now sends.now)) (on_edge logs.old edge).messages) }
+        ≡ with_messages (messages_outside (inside low.now) (messages_of_part part (messages_of cause.now sends.now)))
+        (on_edge logs.old edge).messages) }
     ensures others { (e : ℕ) → e ≢ edge → on_edge logs.new e ≡ on_edge logs.old e }
 {
     match logs.get_mut(edge) {
-        Some(log) => log_each(log, low, cause, sends),
+        Some(log) => log_each(log, part, low, cause, sends),
         None => Ok(()),
     }
 }
 
-/// What is sent is pending. The error is want of memory.
-fn put_each(queue: &mut Queue, cause: &Stamp, sends: &Sends) -> Result<(), AllocError>
-    ensures { OnOk result (queue.new.messages ≡ with_messages (messages_of cause.now sends.now) queue.old.messages) }
+/// Of what is sent that whose key is of the part is pending. The error is want of memory.
+fn put_each(
+    queue: &mut Queue,
+    part: Option<KeyPart>,
+    cause: &Stamp,
+    sends: &Sends,
+) -> Result<(), AllocError>
+    ensures { OnOk result (queue.new.messages ≡ with_messages (messages_of_part part (messages_of cause.now sends.now)) queue.old.messages) }
 {
     // This call tells that the messages of the queue are in order.
     let _none = queue.is_empty();
     for place in 0..sends.len() {
         if let Some(message) = sends.message(place, cause) {
-            queue.put(message)?;
+            if is_of_part(part, message.rec.key) {
+                queue.put(message)?;
+            }
         }
     }
     Ok(())
 }
 
-/// What is sent outside the receiver's low watermark is kept in the log. The error is want of memory.
-fn log_each(log: &mut MsgLog, low: &Front, cause: &Stamp, sends: &Sends) -> Result<(), AllocError>
+/// Whether a message belongs in a log: its key is of the part, and it lies outside the receiver's low watermark.
+fn is_logged(part: Option<KeyPart>, low: &Front, message: &Message) -> bool
+    ensures { result ≡ (is_of_part_if part message.now.rec.key && not (inside low.now message.now.at)) }
+{
+    is_of_part(part, message.rec.key) && !low.contains(&message.at)
+}
+
+/// Of what is sent that whose key is of the part, and which lies outside the receiver's low watermark, is kept in the log. The
+/// error is want of memory.
+fn log_each(
+    log: &mut MsgLog,
+    part: Option<KeyPart>,
+    low: &Front,
+    cause: &Stamp,
+    sends: &Sends,
+) -> Result<(), AllocError>
     ensures { OnOk result (log.new.messages
-        ≡ with_messages (messages_outside (inside low.now) (messages_of cause.now sends.now)) log.old.messages) }
+        ≡ with_messages (messages_outside (inside low.now) (messages_of_part part (messages_of cause.now sends.now))) log.old.messages) }
 {
     // This call tells that the messages of the log are in order.
     let _none = log.is_empty();
     for place in 0..sends.len() {
         if let Some(message) = sends.message(place, cause) {
-            if !low.contains(&message.at) {
+            if is_logged(part, low, &message) {
                 log.append(message)?;
             }
         }

@@ -4,7 +4,8 @@ use Rattle.fw_flow.specs.Dataflow.{batches_of, bounds_of, declared_parent, in_ed
 use Rattle.fw_flow.specs.declared.choice.Cut.TheVariants.{At}
 use Rattle.fw_flow.specs.declared.event.Event.TheVariants.{Deliver as Delivered, Inject as Injected, Deliver, Inject, Notify}
 use Rattle.fw_flow.specs.declared.step.Step.TheVariants.{Collect, Recover}
-use Rattle.fw_model.specs.Carried.{carried, is_carried, carried_timed}
+use Rattle.fw_flow.specs.KeyParts.{is_carried, part_of}
+use Rattle.fw_model.specs.Carried.{carried, carried_timed}
 use Rattle.fw_model.specs.Choice.{ever, kept, until}
 use Rattle.fw_model.specs.Machine.{events, first_state, is_failed, checkpoint, acknowledged}
 use Rattle.fw_model.specs.Steps.{cuts, did, lows, silent}
@@ -211,7 +212,7 @@ collection_restored =
     }
 
 pub logs_restored : LogsRestored
-unfolding kind_of sender receiver sends bounds_of batches_of max_of parent_of declared_parent loops_of carried is_carried
+unfolding kind_of sender receiver sends bounds_of batches_of max_of parent_of declared_parent loops_of carried is_carried part_of
 logs_restored = record {
   two_again = refl;
   logs_of_loop = λ law. law two_batches loop_is_reached.well_formed loop_steps loop_outcomes counting_failed runs_to_failure (is_failed counting_failed) restored restored_is_largest 2 (lit< tt);
@@ -289,14 +290,14 @@ sending_applies = record {
 }
 
 numbers_solve : IsDenotation numbers (rounds numbers 4)
-unfolding kind_of sender in_edges batches_of carried_timed is_carried
+unfolding kind_of sender in_edges batches_of carried_timed is_carried part_of receiver
 numbers_solve zero = refl
 numbers_solve (suc zero) = refl
 numbers_solve (suc (suc zero)) = refl
 numbers_solve (suc (suc (suc e))) = refl
 
 in_order_each : AreInOrder totals_denoted
-unfolding kind_of sender in_edges batches_of carried_timed is_carried
+unfolding kind_of sender in_edges batches_of carried_timed is_carried part_of receiver
 in_order_each zero = refl
 in_order_each (suc zero) = refl
 in_order_each (suc (suc e)) = refl
@@ -308,7 +309,7 @@ none_before (suc zero) r = absurd (omega (arith, r))
 none_before (suc (suc d)) r = absurd (omega (arith, r))
 
 pub denotation_applies : DenotationApplies
-unfolding kind_of sender in_edges batches_of receiver carried_timed is_carried
+unfolding kind_of sender in_edges batches_of receiver carried_timed is_carried part_of
 denotation_applies =
     let system = totals_are_well_formed in
     let flow = system.well_formed.flow in
@@ -343,7 +344,7 @@ writes_apply =
     }
 
 pub replay_applies : ReplayApplies
-unfolding kind_of policy_of sender receiver bounds_of sends carried is_carried
+unfolding kind_of policy_of sender receiver bounds_of sends carried is_carried part_of
 replay_applies =
     let system = totals_are_well_formed in
     let reached = collects_a_logged_event.reached in

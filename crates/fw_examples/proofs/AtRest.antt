@@ -3,7 +3,8 @@ use Rattle.std.proofs.Common.{◌≡◌, ℕ, zero, suc, ◌≤◌, List, ◌∷
 use Rattle.fw_lemmas.proofs.Numbers.{at_most-refl}
 use Rattle.fw_flow.specs.Dataflow.{batches_of, in_edges, kind_of, receiver, sender}
 use Rattle.fw_flow.specs.declared.step.Step.TheVariants.{Recover}
-use Rattle.fw_model.specs.Carried.{carried_timed, is_carried}
+use Rattle.fw_flow.specs.KeyParts.{is_carried, part_of}
+use Rattle.fw_model.specs.Carried.{carried_timed}
 use Rattle.fw_model.specs.LawsOfRuns.{RunsGoOn}
 use Rattle.fw_model.specs.Machine.{Machine, events, first_state}
 use Rattle.fw_model.specs.Reached.{IsReached}
@@ -34,7 +35,7 @@ rested_is_reached law also rested g = (
 )
 
 pub rest_applies : RestApplies
-unfolding kind_of receiver sender batches_of in_edges steps_in_all carried_timed is_carried
+unfolding kind_of receiver sender batches_of in_edges steps_in_all carried_timed is_carried part_of
 rest_applies =
     let system = totals_are_well_formed in
     let formed = system.well_formed in

@@ -7,7 +7,8 @@ use Rattle.fw_flow.specs.WellFormed.{IsWellFormed, IsWellFormedSystem}
 use Rattle.fw_flow.specs.declared.kind.Policy.TheVariants as policy
 use Rattle.fw_flow.specs.declared.step.Step.{Step}
 use Rattle.fw_flow.specs.declared.step.Step.TheVariants.{Collect, Inject, Persist, Progress}
-use Rattle.fw_model.specs.Carried.{carried, is_carried}
+use Rattle.fw_flow.specs.KeyParts.{is_carried, part_of}
+use Rattle.fw_model.specs.Carried.{carried}
 use Rattle.fw_model.specs.Choice.{IsWatermark, kept}
 use Rattle.fw_model.specs.Machine.{Machine, first_state}
 use Rattle.fw_model.specs.Steps.{Outcome, Run, StepsTo, did, eager_writes, lows, silent}
@@ -62,7 +63,7 @@ comes k steps outcomes last sent settled written run =
     (one_settled k, settled, plays ten_epochs (persist ∷ []) (one_settled k) steps outcomes last written run)
 
 nine_are_low : IsWatermark ten_epochs nine_settled nine_but_at_output
-unfolding kind_of receiver sender sends batches_of bounds_of policy_of phi psi carried is_carried
+unfolding kind_of receiver sender sends batches_of bounds_of policy_of phi psi carried is_carried part_of
 nine_are_low =
     largest_by ten_epochs nine_settled (λ p. true) kept nine_but_at_output
     (consistent_by ten_epochs nine_settled (λ p. true) kept nine_but_at_output formed refl refl refl refl) refl refl
@@ -80,7 +81,7 @@ unfolding kind_of receiver bounds_of policy_of
 collects = (eight_collected, (nine_but_at_output, nine_are_low, (λ e. cc), refl, refl), refl)
 
 reached : Run ten_epochs (first_state ten_epochs) steps_to_collected outcomes_to_collected eight_collected
-unfolding kind_of receiver sender sends batches_of bounds_of policy_of phi carried is_carried
+unfolding kind_of receiver sender sends batches_of bounds_of policy_of phi carried is_carried part_of
 reached =
     let from_9 = collects in
     let from_8 = comes 8 (steps_left 0) (shown_left 0) eight_collected refl (settles ten_epochs (one_sent 8) (alike 9) formed refl refl refl 0 (8 ∷ []) (lit< tt) refl refl) refl from_9 in

@@ -6,7 +6,8 @@ use Rattle.fw_time.specs.Stamp.{Stamp}
 use Rattle.fw_frontier.specs.Frontier.{Frontier}
 use Rattle.fw_flow.specs.Dataflow.{batches_of, bounds_of, kind_of, node_frontier, policy_of, receiver, sender}
 use Rattle.fw_flow.specs.NodeFunction.{sends}
-use Rattle.fw_model.specs.Carried.{carried, is_carried}
+use Rattle.fw_flow.specs.KeyParts.{is_carried, part_of}
+use Rattle.fw_model.specs.Carried.{carried}
 use Rattle.fw_model.specs.Choice.{cut_of, until}
 use Rattle.fw_model.specs.Covers.{covers_in}
 use Rattle.fw_model.specs.Machine.{is_failed}
@@ -41,7 +42,7 @@ without-poorer rich floor = record {
 }
 
 pub covers_are_poorer : CoversArePoorer
-unfolding kind_of policy_of sender receiver sends bounds_of batches_of carried is_carried
+unfolding kind_of policy_of sender receiver sends bounds_of batches_of carried is_carried part_of
 covers_are_poorer =
     let rich = covers_in totals output_failed in
     record {

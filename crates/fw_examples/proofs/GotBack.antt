@@ -8,7 +8,8 @@ use Rattle.fw_flow.specs.WellFormed.{IsWellFormed, IsWellFormedSystem}
 use Rattle.fw_flow.specs.declared.choice.Cut.TheVariants.{At}
 use Rattle.fw_flow.specs.declared.kind.Policy.TheVariants as policy
 use Rattle.fw_flow.specs.declared.step.Step.TheVariants as step
-use Rattle.fw_model.specs.Carried.{carried, is_carried}
+use Rattle.fw_flow.specs.KeyParts.{is_carried, part_of}
+use Rattle.fw_model.specs.Carried.{carried}
 use Rattle.fw_model.specs.Choice.{kept, until}
 use Rattle.fw_model.specs.Machine.{Machine, first_state}
 use Rattle.fw_model.specs.Reached.{IsReached}
@@ -66,7 +67,7 @@ abbrev both_settled : Machine
 both_settled = record both_there { settled = [] ∷ [] ∷ none ∷ [] }
 
 one_reached : IsReached each_written one_in_flight
-unfolding kind_of receiver sender sends batches_of bounds_of policy_of phi carried is_carried
+unfolding kind_of receiver sender sends batches_of bounds_of policy_of phi carried is_carried part_of
 one_reached = (
   step.Inject src ∷ step.Deliver src_to_big None ∷ step.Deliver src_to_big None ∷ step.Progress ∷ step.Persist ∷ [],
   did silent ∷ did silent ∷ did silent ∷ did silent ∷ did silent ∷ [],

@@ -3,7 +3,8 @@ use Rattle.std.proofs.Common.{[], arith, false, lit<, lit≤, refl, suc, zero, �
 use Rattle.fw_frontier.specs.Front.{IsCanonical}
 use Rattle.fw_flow.specs.Dataflow.{batches_of, bounds_of, kind_of, receiver, sender}
 use Rattle.fw_flow.specs.NodeFunction.{sends}
-use Rattle.fw_model.specs.Carried.{carried, is_carried}
+use Rattle.fw_flow.specs.KeyParts.{is_carried, part_of}
+use Rattle.fw_model.specs.Carried.{carried}
 use Rattle.fw_model.specs.Choice.{until}
 use Rattle.fw_model.specs.History.{IsComplete}
 use Rattle.fw_model.specs.Machine.{AreCanonical, events, family_of}
@@ -66,7 +67,7 @@ none_grew : AreGrownBefore total_flow come_back.failed come_back.settled (alike 
 none_grew = others-settle_nothing total_flow come_back.failed come_back.settled (alike 2) (alike 2) 0 3 (lit≤ tt) none_after (none_settled-first total_flow come_back.failed come_back.settled (alike 2))
 
 two_complete : IsComplete totals (events come_back.history) (family_of total_flow (alike 2))
-unfolding kind_of receiver sender sends batches_of bounds_of carried is_carried
+unfolding kind_of receiver sender sends batches_of bounds_of carried is_carried part_of
 two_complete = complete_by totals two_epochs (alike 2) totals_formed refl refl
 
 pub epochs_settle_in_turn : EpochsSettleInTurn

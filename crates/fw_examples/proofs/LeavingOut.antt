@@ -15,7 +15,8 @@ use Rattle.fw_flow.specs.declared.choice.Cut.{Cut}
 use Rattle.fw_flow.specs.declared.choice.Cut.TheVariants.{At, Present}
 use Rattle.fw_flow.specs.declared.event.Event.TheVariants.{Notify as Notified}
 use Rattle.fw_flow.specs.declared.event.Message.{Message}
-use Rattle.fw_model.specs.Carried.{carried, is_carried}
+use Rattle.fw_flow.specs.KeyParts.{is_carried, part_of}
+use Rattle.fw_model.specs.Carried.{carried}
 use Rattle.fw_model.specs.Choice.{IsChoiceWithin, IsConsistent, IsCutWithin, cut_of, kept, notice_of}
 use Rattle.fw_model.specs.Covers.{covers_in}
 use Rattle.fw_model.specs.Machine.{Machine, events, first_state, front_of, is_failed}
@@ -181,7 +182,7 @@ failed_late = after_all one_selected (first_state one_selected) late
 -- ---- after the rec was put out
 
 nothing_consistent : IsConsistent one_selected failed_late (offers one_selected failed_late) nothing_kept
-unfolding kind_of receiver sender sends batches_of bounds_of policy_of phi psi carried is_carried
+unfolding kind_of receiver sender sends batches_of bounds_of policy_of phi psi carried is_carried part_of
 nothing_consistent =
     consistent_by one_selected failed_late (is_failed failed_late) kept nothing_kept one_formed refl refl refl refl
 
@@ -193,7 +194,7 @@ late_at_output Present o w = false≢true (w (0 ∷ []) refl)
 late_at_output (At f) o w = o.1.0
 
 nothing_above : (other : Choice) → IsConsistent one_selected failed_late (offers one_selected failed_late) other → IsChoiceWithin one_selected.flow other nothing_kept
-unfolding kind_of receiver sender sends batches_of bounds_of policy_of carried is_carried
+unfolding kind_of receiver sender sends batches_of bounds_of policy_of carried is_carried part_of
 nothing_above other is =
     let at_select = offered_within one_selected failed_late (is_failed failed_late) kept 1 none refl refl (cut_of other 1) (is.offered 1 (lit< tt)) in
     let at_input = sender_within one_selected failed_late _ other is 0 (lit< tt) none (0 ∷ []) (0 ∷ []) at_select refl refl (λ sent f. refl) refl refl refl in
@@ -202,17 +203,17 @@ nothing_above other is =
     above_by one_selected failed_late _ nothing_kept other is (by_three _ at_input at_select at_output) refl
 
 output_kept_without : IsConsistentWithout of_delivered one_selected failed_late (offers one_selected failed_late) output_kept
-unfolding kind_of receiver sender sends batches_of bounds_of policy_of phi psi carried is_carried
+unfolding kind_of receiver sender sends batches_of bounds_of policy_of phi psi carried is_carried part_of
 output_kept_without =
     without_by of_delivered one_selected failed_late output_kept one_formed refl refl refl refl refl
 
 -- nobody sent what the output would have
 sent_by_nobody : LeavesAHistory one_selected failed_late output_kept → ⊥
-unfolding kind_of receiver sender sends batches_of bounds_of carried is_carried
+unfolding kind_of receiver sender sends batches_of bounds_of carried is_carried part_of
 sent_by_nobody is = false≢true is.0.is_pending
 
 pub delivered_is_needed : DeliveredIsNeeded
-unfolding kind_of receiver sender sends batches_of bounds_of policy_of carried is_carried
+unfolding kind_of receiver sender sends batches_of bounds_of policy_of carried is_carried part_of
 delivered_is_needed = (
   failed_late,
   plays one_selected late (first_state one_selected) [] [] failed_late refl refl,
@@ -226,12 +227,12 @@ delivered_is_needed = (
 -- ---- before the rec came
 
 output_kept_consistent : IsConsistent one_selected failed_early (offers one_selected failed_early) output_kept
-unfolding kind_of receiver sender sends batches_of bounds_of policy_of phi psi carried is_carried
+unfolding kind_of receiver sender sends batches_of bounds_of policy_of phi psi carried is_carried part_of
 output_kept_consistent =
     consistent_by one_selected failed_early (is_failed failed_early) kept output_kept one_formed refl refl refl refl
 
 output_kept_above : (other : Choice) → IsConsistent one_selected failed_early (offers one_selected failed_early) other → IsChoiceWithin one_selected.flow other output_kept
-unfolding kind_of receiver sender sends batches_of bounds_of policy_of carried is_carried
+unfolding kind_of receiver sender sends batches_of bounds_of policy_of carried is_carried part_of
 output_kept_above other is =
     let at_select = offered_within one_selected failed_early (is_failed failed_early) kept 1 none refl refl (cut_of other 1) (is.offered 1 (lit< tt)) in
     let at_input = sender_within one_selected failed_early _ other is 0 (lit< tt) none (0 ∷ []) (0 ∷ []) at_select refl refl (λ sent f. refl) refl refl refl in
@@ -246,11 +247,11 @@ output_kept_above other is =
     }
 
 input_kept_without : IsConsistentWithout of_discarded one_selected failed_early (offers one_selected failed_early) input_kept
-unfolding kind_of receiver sender sends batches_of bounds_of policy_of phi psi carried is_carried
+unfolding kind_of receiver sender sends batches_of bounds_of policy_of phi psi carried is_carried part_of
 input_kept_without = without_by of_discarded one_selected failed_early input_kept one_formed refl refl refl refl refl
 
 pub discarded_is_needed : DiscardedIsNeeded
-unfolding kind_of receiver sender sends batches_of bounds_of policy_of carried is_carried
+unfolding kind_of receiver sender sends batches_of bounds_of policy_of carried is_carried part_of
 discarded_is_needed = (
   failed_early,
   plays one_selected early (first_state one_selected) [] [] failed_early refl refl,
@@ -284,7 +285,7 @@ abbrev select_failed : Machine
 select_failed = after_all one_comes sum_notified (fail 2 [] ∷ [])
 
 failed_after_notice : IsFailedAfterNotice select_failed
-unfolding kind_of receiver sender sends batches_of bounds_of policy_of phi carried is_carried
+unfolding kind_of receiver sender sends batches_of bounds_of policy_of phi carried is_carried part_of
 failed_after_notice =
     plays one_comes coming (first_state one_comes) (step.Notify 4 (Some (0 ∷ [])) ∷ step.Fail (2 ∷ []) ∷ []) (did silent ∷ did silent ∷ []) select_failed refl (
       sum_notified,
@@ -295,7 +296,7 @@ failed_after_notice =
 -- ---- the largest choice
 
 undone_consistent : IsConsistent one_comes select_failed (offers one_comes select_failed) sum_undone
-unfolding kind_of receiver sender sends batches_of bounds_of policy_of phi psi carried is_carried
+unfolding kind_of receiver sender sends batches_of bounds_of policy_of phi psi carried is_carried part_of
 undone_consistent =
     consistent_by one_comes select_failed (is_failed select_failed) kept sum_undone two_sources_is_well_formed refl refl refl refl
 
@@ -307,7 +308,7 @@ at_sum Present o w = false≢true (w (0 ∷ []) refl)
 at_sum (At f) o w = o.1
 
 undone_above : (other : Choice) → IsConsistent one_comes select_failed (offers one_comes select_failed) other → IsChoiceWithin one_comes.flow other sum_undone
-unfolding kind_of receiver sender sends batches_of bounds_of policy_of carried is_carried
+unfolding kind_of receiver sender sends batches_of bounds_of policy_of carried is_carried part_of
 undone_above other is =
     let at_select = offered_within one_comes select_failed (is_failed select_failed) kept 2 none refl refl (cut_of other 2) (is.offered 2 (lit< tt)) in
     let at_second = sender_within one_comes select_failed _ other is 1 (lit< tt) none (0 ∷ []) (0 ∷ []) at_select refl refl (λ sent f. refl) refl refl refl in
@@ -329,12 +330,12 @@ undone_above other is =
 -- ---- the sum stays as it is, whatever counts as notified
 
 undone_left : LeavesAHistory one_comes select_failed sum_undone
-unfolding kind_of receiver sender sends batches_of bounds_of carried is_carried
+unfolding kind_of receiver sender sends batches_of bounds_of carried is_carried part_of
 undone_left = (record { is_pending = refl; numbered = λ n. absurd (false≢true n) }, (record { input = refl; next = refl; there = lit< tt }, tt))
 
 -- the sum would have been notified of an epoch that is not complete: the second input is still to send it
 notified_too_early : (notices : List Front) → LeavesAHistory one_comes select_failed (sum_kept notices) → ⊥
-unfolding kind_of receiver sender sends batches_of bounds_of phi carried is_carried
+unfolding kind_of receiver sender sends batches_of bounds_of phi carried is_carried part_of
 notified_too_early notices is =
     let done = is.0.complete.0 in
     let admissible = is.0.complete.1 in
@@ -348,19 +349,19 @@ needed left_out notices without =
     ((record { consistent = undone_consistent; largest = undone_above }, without, λ w. w.cuts 4 (lit< tt)), undone_left, notified_too_early notices)
 
 pub notified_is_needed : NotifiedIsNeeded
-unfolding kind_of receiver sender sends batches_of bounds_of policy_of phi psi carried is_carried
+unfolding kind_of receiver sender sends batches_of bounds_of policy_of phi psi carried is_carried part_of
 notified_is_needed =
     let notices = all ∷ none ∷ none ∷ none ∷ none ∷ none ∷ [] in
     (select_failed, failed_after_notice, needed of_notified notices (without_by of_notified one_comes select_failed (sum_kept notices) two_sources_is_well_formed refl refl refl refl refl))
 
 pub own_is_needed : OwnIsNeeded
-unfolding kind_of receiver sender sends batches_of bounds_of policy_of phi psi carried is_carried
+unfolding kind_of receiver sender sends batches_of bounds_of policy_of phi psi carried is_carried part_of
 own_is_needed =
     let notices = all ∷ all ∷ all ∷ all ∷ all ∷ all ∷ [] in
     (select_failed, failed_after_notice, needed of_own notices (without_by of_own one_comes select_failed (sum_kept notices) two_sources_is_well_formed refl refl refl refl refl))
 
 pub notices_are_needed : NoticesAreNeeded
-unfolding kind_of receiver sender sends batches_of bounds_of policy_of phi psi carried is_carried
+unfolding kind_of receiver sender sends batches_of bounds_of policy_of phi psi carried is_carried part_of
 notices_are_needed =
     let notices = all ∷ none ∷ none ∷ none ∷ all ∷ none ∷ [] in
     (select_failed, failed_after_notice, needed of_notices notices (without_by of_notices one_comes select_failed (sum_kept notices) two_sources_is_well_formed refl refl refl refl refl))

@@ -13,7 +13,8 @@ use Rattle.fw_flow.specs.declared.choice.Cut.{Cut}
 use Rattle.fw_flow.specs.declared.choice.Cut.TheVariants.{At, Present}
 use Rattle.fw_flow.specs.declared.event.Event.TheVariants.{Notify as Notified}
 use Rattle.fw_flow.specs.declared.event.Message.{Message}
-use Rattle.fw_model.specs.Carried.{carried, is_carried}
+use Rattle.fw_flow.specs.KeyParts.{is_carried, part_of}
+use Rattle.fw_model.specs.Carried.{carried}
 use Rattle.fw_model.specs.Choice.{IsChoiceWithin, IsConsistent, IsCutWithin, IsLogged, IsWatermark, cut_of, kept, notice_of, until}
 use Rattle.fw_model.specs.Machine.{Machine, events, first_state, is_failed}
 use Rattle.fw_model.specs.Steps.{collected_writes, cuts, did, eager_writes, offers, silent, with_event}
@@ -50,7 +51,7 @@ abbrev select_failed : Machine
 select_failed = after_all each_written select_settled (persist ∷ fail 1 [] ∷ [])
 
 nothing_consistent : IsConsistent each_written select_failed (offers each_written select_failed) nothing_restored
-unfolding kind_of receiver sender sends batches_of bounds_of policy_of phi psi carried is_carried
+unfolding kind_of receiver sender sends batches_of bounds_of policy_of phi psi carried is_carried part_of
 nothing_consistent = consistent_by each_written select_failed (is_failed select_failed) kept nothing_restored written_formed refl refl refl refl
 
 -- a frontier with epoch 0 holds the event that is not written
@@ -64,7 +65,7 @@ at_select (At f) o =
     not_logged h = omega arith
 
 nothing_above : (other : Choice) → IsConsistent each_written select_failed (offers each_written select_failed) other → IsChoiceWithin each_written.flow other nothing_restored
-unfolding kind_of receiver sender sends batches_of bounds_of policy_of carried is_carried
+unfolding kind_of receiver sender sends batches_of bounds_of policy_of carried is_carried part_of
 nothing_above other is =
     let selected = at_select (cut_of other 1) (is.offered 1 (lit< tt)) in
     let at_input = sender_within each_written select_failed _ other is 0 (lit< tt) none (0 ∷ []) (0 ∷ []) selected refl refl (λ sent f. refl) refl refl refl in
@@ -79,7 +80,7 @@ nothing_above other is =
     }
 
 pub loses_an_epoch : LosesAnEpoch
-unfolding kind_of receiver sender sends batches_of bounds_of policy_of phi psi carried is_carried
+unfolding kind_of receiver sender sends batches_of bounds_of policy_of phi psi carried is_carried part_of
 loses_an_epoch =
     plays each_written coming (first_state each_written) (step.Progress ∷ step.Persist ∷ step.Fail (1 ∷ []) ∷ step.Recover ∷ [])
     (did silent ∷ did silent ∷ did silent ∷ did (cuts nothing_restored) ∷ []) nothing_left refl (
@@ -123,13 +124,13 @@ one_collected = record one_acknowledged {
 }
 
 low_is : IsWatermark events_logged one_acknowledged low_but_for_the_last
-unfolding kind_of receiver sender sends batches_of bounds_of policy_of phi psi carried is_carried
+unfolding kind_of receiver sender sends batches_of bounds_of policy_of phi psi carried is_carried part_of
 low_is =
     largest_by events_logged one_acknowledged (λ p. true) kept low_but_for_the_last
     (consistent_by events_logged one_acknowledged (λ p. true) kept low_but_for_the_last events_formed refl refl refl refl) refl refl
 
 pub collects_a_logged_event : CollectsALoggedEvent
-unfolding kind_of receiver sender out_edges sends batches_of bounds_of policy_of phi psi carried is_carried
+unfolding kind_of receiver sender out_edges sends batches_of bounds_of policy_of phi psi carried is_carried part_of
 collects_a_logged_event = record {
   reached =
       plays events_logged coming_through (first_state events_logged) (drop 5 steps_with_events) (drop 5 outcomes_with_events) event_collected refl (
@@ -187,13 +188,13 @@ abbrev second_settled : Machine
 second_settled = settled_to second_taken all_but_the_last
 
 first_is_low : IsWatermark checkpoints_logged first_acknowledged first_epoch_everywhere
-unfolding kind_of receiver sender sends batches_of bounds_of policy_of phi psi carried is_carried
+unfolding kind_of receiver sender sends batches_of bounds_of policy_of phi psi carried is_carried part_of
 first_is_low =
     largest_by checkpoints_logged first_acknowledged (λ p. true) kept first_epoch_everywhere
     (consistent_by checkpoints_logged first_acknowledged (λ p. true) kept first_epoch_everywhere checkpoints_formed refl refl refl refl) refl refl
 
 pub keeps_a_log_with_a_checkpoint : KeepsALogWithACheckpoint
-unfolding kind_of receiver sender sends batches_of bounds_of policy_of phi psi carried is_carried
+unfolding kind_of receiver sender sends batches_of bounds_of policy_of phi psi carried is_carried part_of
 keeps_a_log_with_a_checkpoint = record {
   reached =
       plays checkpoints_logged first_moves (first_state checkpoints_logged) (drop 3 steps_with_checkpoints) (drop 3 outcomes_with_checkpoints) log_kept refl (
@@ -238,13 +239,13 @@ abbrev total_acknowledged : Machine
 total_acknowledged = after_all total_logged total_settled two_written
 
 total_is_low : IsWatermark total_logged total_acknowledged low_but_for_the_last
-unfolding kind_of receiver sender sends batches_of bounds_of policy_of phi psi carried is_carried
+unfolding kind_of receiver sender sends batches_of bounds_of policy_of phi psi carried is_carried part_of
 total_is_low =
     largest_by total_logged total_acknowledged (λ p. true) kept low_but_for_the_last
     (consistent_by total_logged total_acknowledged (λ p. true) kept low_but_for_the_last total_formed refl refl refl refl) refl refl
 
 pub keeps_events_of_a_total : KeepsEventsOfATotal
-unfolding kind_of receiver sender out_edges sends batches_of bounds_of policy_of phi psi carried is_carried
+unfolding kind_of receiver sender out_edges sends batches_of bounds_of policy_of phi psi carried is_carried part_of
 keeps_events_of_a_total = record {
   reached =
       plays total_logged (inject 0 0 ∷ deliver 0 None first_message ∷ []) (first_state total_logged) (drop 2 steps_with_total) (drop 2 outcomes_with_total) none_collected refl (

@@ -19,7 +19,8 @@ use Rattle.fw_flow.specs.declared.choice.Cut.TheVariants.{At}
 use Rattle.fw_flow.specs.declared.step.Step.{Step}
 use Rattle.fw_flow.specs.declared.step.Step.TheVariants.{Recover}
 use Rattle.fw_flow.proofs.MessageLaws.{less-none}
-use Rattle.fw_model.specs.Carried.{carried, is_carried, carried_timed}
+use Rattle.fw_flow.specs.KeyParts.{is_carried, part_of}
+use Rattle.fw_model.specs.Carried.{carried, carried_timed}
 use Rattle.fw_model.specs.Choice.{IsConsistent, IsCutWithin, IsLargest, cut_of, kept, notice_of}
 use Rattle.fw_model.specs.Denotation.{IsDenotation, bag_at, rounds}
 use Rattle.fw_model.specs.History.{IsAdmissible, IsComplete, IsLegal, delivered_messages, pending_messages, some_at}
@@ -53,11 +54,11 @@ recs_where-none t at [] later h e = e
 recs_where-none t at (r ∷ rs) later h e = rw h (recs_where-none t at rs later h e)
 
 pub two_batches_solves : IsDenotation two_batches (rounds two_batches 14)
-unfolding kind_of sender in_edges batches_of max_of parent_of declared_parent loops_of carried_timed is_carried
+unfolding kind_of sender in_edges batches_of max_of parent_of declared_parent loops_of carried_timed is_carried part_of receiver
 two_batches_solves = all_seven _ refl refl refl refl refl refl refl (λ e. refl)
 
 two_batches_at_output : rounds two_batches 14 6 ≡ timed_recs (0 ∷ []) first_values ++ (timed_recs (1 ∷ []) second_values ++ [])
-unfolding kind_of sender in_edges batches_of max_of first_values second_values parent_of declared_parent loops_of carried_timed is_carried
+unfolding kind_of sender in_edges batches_of max_of first_values second_values parent_of declared_parent loops_of carried_timed is_carried part_of receiver
 two_batches_at_output = refl
 
 pub two_batches_first : bag_at (rounds two_batches 14) 6 (0 ∷ []) ≡ (pair 1 1 ∷ pair 1 2 ∷ pair 1 3 ∷ pair 1 4 ∷ [])
@@ -100,7 +101,7 @@ most_before : (other : ℕ → Frontier) → IsAdmissible two_batches under_way 
 most_before other adm p e t h = and_from _ _ ((adm.frontier p).inside_domain t h) (ap (λ os. inside os t) e)
 
 most_feedback : (other : ℕ → Frontier) → IsAdmissible two_batches under_way other → Within (other 4) (complete_at 4)
-unfolding kind_of sender receiver bounds_of max_of sends batches_of parent_of declared_parent loops_of carried is_carried
+unfolding kind_of sender receiver bounds_of max_of sends batches_of parent_of declared_parent loops_of carried is_carried part_of
 most_feedback other adm t h =
     let above : (o : Stamp) → in_domain (bounds_of loop_counts_up 4) o ≡ true → (other 4 o ≡ true → ⊥) → not (leq o t) ≡ true =
     λ o d out. not_above (bounds_of loop_counts_up 4) (other 4) (adm.frontier 4) o d out t h in
@@ -114,7 +115,7 @@ most_mixing other adm =
     next_within two_batches under_way other adm 4 (complete_at 4) (complete_at 2) (within_two 4294967295 3 _ _ (λ x y hx hy k. grind (arith, nat_tests))) (most_feedback other adm)
 
 most_counting : (other : ℕ → Frontier) → IsAdmissible two_batches under_way other → Within (other 3) (complete_at 3)
-unfolding phi kind_of sender receiver bounds_of max_of sends batches_of parent_of declared_parent loops_of carried is_carried
+unfolding phi kind_of sender receiver bounds_of max_of sends batches_of parent_of declared_parent loops_of carried is_carried part_of
 most_counting other adm t h =
     let met : (in_domain (bounds_of loop_counts_up 2) t ≡ true) × (other 2 t ≡ true) =
     and_parts (in_domain (bounds_of loop_counts_up 2) t) (other 2 t) (adm.follows 2 t h) in
@@ -125,7 +126,7 @@ most_counting other adm t h =
     (and_from _ _ (not_above (bounds_of loop_counts_up 3) (other 3) (adm.frontier 3) (1 ∷ 0 ∷ []) refl (kept_out other adm 2 (1 ∷ 0 ∷ []) refl) t h) refl))
 
 most_leaving : (other : ℕ → Frontier) → IsAdmissible two_batches under_way other → Within (other 5) (complete_at 5)
-unfolding kind_of sender receiver bounds_of max_of sends batches_of parent_of declared_parent loops_of carried is_carried
+unfolding kind_of sender receiver bounds_of max_of sends batches_of parent_of declared_parent loops_of carried is_carried part_of
 most_leaving other adm t h =
     and_from _ _ ((adm.frontier 5).inside_domain t h)
     (and_from _ _ (not_above (bounds_of loop_counts_up 5) (other 5) (adm.frontier 5) (0 ∷ 0 ∷ []) refl (kept_out other adm 5 (0 ∷ 0 ∷ []) refl) t h) refl)
@@ -146,7 +147,7 @@ most other adm = all_seven _
     (λ p. most_before other adm (suc (suc (suc (suc (suc (suc (suc p))))))) refl)
 
 pub under_way_is_complete : IsComplete two_batches under_way complete_at
-unfolding kind_of sender receiver bounds_of batches_of max_of sends parent_of declared_parent loops_of carried is_carried
+unfolding kind_of sender receiver bounds_of batches_of max_of sends parent_of declared_parent loops_of carried is_carried part_of
 under_way_is_complete = record { admissible = admissible_with two_batches under_way complete_fronts is_well_formed refl follows; largest = most }
 
 -- ---- the choice of the recovery is the largest
@@ -164,7 +165,7 @@ notices_kept = by_seven _
     (within_one 4294967295 _ _ (λ x hx k. grind (arith, nat_tests)))
 
 consistent : IsConsistent two_batches counting_failed (offers two_batches counting_failed) restored
-unfolding kind_of policy_of sender receiver bounds_of max_of parent_of declared_parent loops_of batches_of sends carried is_carried
+unfolding kind_of policy_of sender receiver bounds_of max_of parent_of declared_parent loops_of batches_of sends carried is_carried part_of
 consistent = record {
   one_cut_each = refl;
   one_notice_each = refl;
@@ -273,7 +274,7 @@ abbrev pub loop_outcomes : List Outcome
 loop_outcomes = replicate 18 (did silent)
 
 pub runs_to_failure : Run two_batches (first_state two_batches) loop_steps loop_outcomes counting_failed
-unfolding kind_of policy_of sender receiver bounds_of batches_of max_of sends parent_of declared_parent loops_of carried is_carried
+unfolding kind_of policy_of sender receiver bounds_of batches_of max_of sends parent_of declared_parent loops_of carried is_carried part_of
 runs_to_failure =
     plays two_batches both_under_way (first_state two_batches) (drop 16 loop_steps) (drop 16 loop_outcomes) counting_failed refl (
       all_settled,
@@ -327,7 +328,7 @@ abbrev both_acknowledged : Machine
 both_acknowledged = after_all two_batches all_complete acknowledging
 
 runs_on : Run two_batches come_back steps_left outcomes_left both_acknowledged
-unfolding kind_of policy_of sender receiver bounds_of batches_of max_of sends parent_of declared_parent loops_of carried is_carried
+unfolding kind_of policy_of sender receiver bounds_of batches_of max_of sends parent_of declared_parent loops_of carried is_carried part_of
 runs_on =
     plays two_batches what_is_left come_back (drop 50 steps_left) (drop 50 outcomes_left) both_acknowledged refl (
       all_complete,
@@ -366,14 +367,14 @@ pub under_way_is_legal : IsLegal two_batches under_way
 under_way_is_legal = runs-legal two_batches loop_steps loop_outcomes counting_failed is_well_formed (has_epochs two_batches loop_system) runs_to_failure
 
 pub under_way_leaves : (e : ℕ) → pending_messages two_batches under_way e ≡ get_or still_pending e []
-unfolding kind_of sender receiver bounds_of batches_of max_of sends parent_of declared_parent loops_of carried is_carried
+unfolding kind_of sender receiver bounds_of batches_of max_of sends parent_of declared_parent loops_of carried is_carried part_of
 under_way_leaves = all_seven _ refl refl refl refl refl refl refl (λ e. less-none (delivered_messages under_way (suc (suc (suc (suc (suc (suc (suc e)))))))))
 
 pub loop_under_way : IsUnderWay
 loop_under_way = record { legal = under_way_is_legal; waiting = under_way_leaves }
 
 pub loop_is_restored : IsRestoredLoop
-unfolding kind_of sender receiver bounds_of batches_of max_of sends parent_of declared_parent loops_of carried is_carried
+unfolding kind_of sender receiver bounds_of batches_of max_of sends parent_of declared_parent loops_of carried is_carried part_of
 loop_is_restored = record {
   remains = refl;
   legal = runs-legal two_batches steps_taken outcomes_shown (recovered_state two_batches counting_failed restored complete_fronts) is_well_formed (has_epochs two_batches loop_system) runs_to_recovery;

@@ -8,7 +8,8 @@ use Rattle.fw_flow.specs.Dataflow.{batches_of, bounds_of, declared_parent, in_ed
 use Rattle.fw_flow.specs.Projection.{phi_by_count, psi}
 use Rattle.fw_flow.specs.WellFormed.{IsWellFormed}
 use Rattle.fw_flow.specs.WholeBags.{timed_where, timed_recs}
-use Rattle.fw_model.specs.Carried.{carried_timed, is_carried}
+use Rattle.fw_flow.specs.KeyParts.{is_carried, part_of}
+use Rattle.fw_model.specs.Carried.{carried_timed}
 use Rattle.fw_model.specs.Denotation.{IsDenotation, rounds}
 use Rattle.fw_examples.specs.Flows.{pair}
 use Rattle.fw_examples.specs.Nested.{OneRecCountsUp, ProjectsFromInnerLoop, nested_loops, one_rec}
@@ -51,11 +52,11 @@ counted : List Rec
 counted = pair 1 1 ∷ pair 1 2 ∷ pair 1 2 ∷ pair 1 3 ∷ pair 1 3 ∷ pair 1 4 ∷ []
 
 one_rec_solves : IsDenotation one_rec (rounds one_rec 20)
-unfolding kind_of sender in_edges batches_of max_of carried_timed is_carried
+unfolding kind_of sender in_edges batches_of max_of carried_timed is_carried part_of receiver
 one_rec_solves = all_twelve _ refl refl refl refl refl refl refl refl refl refl refl refl (λ e. refl)
 
 one_rec_at_output : rounds one_rec 20 11 ≡ timed_recs (0 ∷ []) counted ++ []
-unfolding kind_of sender in_edges batches_of max_of counted carried_timed is_carried
+unfolding kind_of sender in_edges batches_of max_of counted carried_timed is_carried part_of receiver
 one_rec_at_output = refl
 
 one_rec_first : timed_where (same (0 ∷ [])) (rounds one_rec 20 11) ≡ (pair 1 1 ∷ pair 1 2 ∷ pair 1 2 ∷ pair 1 3 ∷ pair 1 3 ∷ pair 1 4 ∷ [])

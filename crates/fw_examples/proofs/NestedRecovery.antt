@@ -14,7 +14,8 @@ use Rattle.fw_flow.specs.declared.choice.Cut.{Cut}
 use Rattle.fw_flow.specs.declared.choice.Cut.TheVariants.{At}
 use Rattle.fw_flow.specs.declared.step.Step.{Step}
 use Rattle.fw_flow.specs.declared.step.Step.TheVariants as step
-use Rattle.fw_model.specs.Carried.{carried, is_carried}
+use Rattle.fw_flow.specs.KeyParts.{is_carried, part_of}
+use Rattle.fw_model.specs.Carried.{carried}
 use Rattle.fw_model.specs.Choice.{IsConsistent, IsCutWithin, IsLargest, cut_of, kept, notice_of}
 use Rattle.fw_model.specs.History.{IsAdmissible, IsComplete, pending_messages, some_at}
 use Rattle.fw_model.specs.Machine.{Machine, events, first_state, front_of, is_failed}
@@ -37,7 +38,7 @@ abbrev complete_at : ℕ → Frontier
 complete_at p = node_frontier nested_loops p (front_of complete_once p)
 
 follows : (e : ℕ) → e < 12 → Within (complete_at (receiver nested_loops e)) (phi one_rec first_round e (complete_at (sender nested_loops e)))
-unfolding phi psi kind_of policy_of sender receiver bounds_of max_of parent_of declared_parent loops_of batches_of sends carried is_carried
+unfolding phi psi kind_of policy_of sender receiver bounds_of max_of parent_of declared_parent loops_of batches_of sends carried is_carried part_of
 follows = by_twelve _
     (within_one 4294967295 _ _ (λ x hx h. grind (arith, nat_tests)))
     (within_two 4294967295 1 _ _ (λ x y hx hy h. grind (arith, nat_tests)))
@@ -67,20 +68,20 @@ projected : (other : ℕ → Frontier) → IsAdmissible one_rec first_round othe
 projected other adm e w t h = phi-monotone one_rec first_round e (other (sender nested_loops e)) (complete_at (sender nested_loops e)) w t (adm.follows e t h)
 
 most_feedback : (other : ℕ → Frontier) → IsAdmissible one_rec first_round other → Within (other 6) (complete_at 6)
-unfolding kind_of policy_of sender receiver bounds_of max_of parent_of declared_parent loops_of batches_of sends carried is_carried
+unfolding kind_of policy_of sender receiver bounds_of max_of parent_of declared_parent loops_of batches_of sends carried is_carried part_of
 most_feedback other adm t h =
     and_from _ _ ((adm.frontier 6).inside_domain t h)
     (and_from _ _ (not_above (bounds_of nested_loops 6) (other 6) (adm.frontier 6) (0 ∷ 0 ∷ 0 ∷ []) refl (kept_out other adm 7 (0 ∷ 0 ∷ 0 ∷ []) refl) t h) refl)
 
 most_leaving : (other : ℕ → Frontier) → IsAdmissible one_rec first_round other → Within (other 7) (complete_at 7)
-unfolding kind_of policy_of sender receiver bounds_of max_of parent_of declared_parent loops_of batches_of sends carried is_carried
+unfolding kind_of policy_of sender receiver bounds_of max_of parent_of declared_parent loops_of batches_of sends carried is_carried part_of
 most_leaving other adm t h =
     and_from _ _ ((adm.frontier 7).inside_domain t h)
     (and_from _ _ (not_above (bounds_of nested_loops 7) (other 7) (adm.frontier 7) (0 ∷ 0 ∷ 0 ∷ []) refl (kept_out other adm 8 (0 ∷ 0 ∷ 0 ∷ []) refl) t h) refl)
 
 -- where rounds of the inner loop meet, both edges count
 meeting : (t : Stamp) → phi one_rec first_round 4 (complete_at 3) t ≡ true → phi one_rec first_round 5 (complete_at 6) t ≡ true → complete_at 4 t ≡ true
-unfolding phi psi kind_of policy_of sender receiver bounds_of max_of parent_of declared_parent loops_of batches_of sends carried is_carried
+unfolding phi psi kind_of policy_of sender receiver bounds_of max_of parent_of declared_parent loops_of batches_of sends carried is_carried part_of
 meeting [] a b = cc
 meeting (x ∷ []) a b = grind (arith, nat_tests)
 meeting (x ∷ y ∷ []) a b = grind (arith, nat_tests)
@@ -88,7 +89,7 @@ meeting (x ∷ y ∷ z ∷ []) a b = grind (arith, nat_tests)
 meeting (x ∷ y ∷ z ∷ w ∷ t) a b = grind (arith, nat_tests)
 
 most : (other : ℕ → Frontier) → IsAdmissible one_rec first_round other → (p : ℕ) → Within (other p) (complete_at p)
-unfolding phi psi kind_of policy_of sender receiver bounds_of max_of parent_of declared_parent loops_of batches_of sends carried is_carried
+unfolding phi psi kind_of policy_of sender receiver bounds_of max_of parent_of declared_parent loops_of batches_of sends carried is_carried part_of
 most other adm =
     let leaving : Within (other 7) (complete_at 7) = most_leaving other adm in
     let left : Within (other 8) (complete_at 8) = next_within one_rec first_round other adm 9 (complete_at 7) (complete_at 8) (within_two 4294967295 1 _ _ (λ x y hx hy h. grind (arith, nat_tests))) leaving in
@@ -104,14 +105,14 @@ most other adm =
     (λ p. most_before other adm (suc (suc (suc (suc (suc (suc (suc (suc (suc (suc (suc p))))))))))) refl)
 
 first_round_is_complete : IsComplete one_rec first_round complete_at
-unfolding kind_of policy_of sender receiver bounds_of max_of parent_of declared_parent loops_of batches_of sends carried is_carried
+unfolding kind_of policy_of sender receiver bounds_of max_of parent_of declared_parent loops_of batches_of sends carried is_carried part_of
 first_round_is_complete = record { admissible = admissible_with one_rec first_round complete_once nested_is_well_formed refl follows; largest = most }
 
 -- ---- the choice of the recovery is the largest
 
 notices_kept : (d : ℕ) → d < 12
     → Within (notice_of one_rec.flow cut_inside (receiver nested_loops d)) (phi one_rec (events (with_serials (second_round ++ first_round))) d (notice_of one_rec.flow cut_inside (sender nested_loops d)))
-unfolding phi psi kind_of policy_of sender receiver bounds_of max_of parent_of declared_parent loops_of batches_of sends carried is_carried
+unfolding phi psi kind_of policy_of sender receiver bounds_of max_of parent_of declared_parent loops_of batches_of sends carried is_carried part_of
 notices_kept = by_twelve _
     (within_one 4294967295 _ _ (λ x hx h. grind (arith, nat_tests)))
     (within_two 4294967295 1 _ _ (λ x y hx hy h. grind (arith, nat_tests)))
@@ -127,7 +128,7 @@ notices_kept = by_twelve _
     (within_one 4294967295 _ _ (λ x hx h. grind (arith, nat_tests)))
 
 consistent : IsConsistent one_rec second_count_failed (offers one_rec second_count_failed) cut_inside
-unfolding kind_of policy_of sender receiver bounds_of max_of parent_of declared_parent loops_of batches_of sends carried is_carried
+unfolding kind_of policy_of sender receiver bounds_of max_of parent_of declared_parent loops_of batches_of sends carried is_carried part_of
 consistent = record {
   one_cut_each = refl;
   one_notice_each = refl;
@@ -142,7 +143,7 @@ consistent = record {
 
 -- a cut that is offered at the failed node lies within what is settled of it
 cut_within : (cut : Cut) → offers one_rec second_count_failed 5 cut → IsCutWithin one_rec.flow 5 cut (At counted_once)
-unfolding kind_of policy_of sender receiver bounds_of max_of parent_of declared_parent loops_of batches_of sends carried is_carried
+unfolding kind_of policy_of sender receiver bounds_of max_of parent_of declared_parent loops_of batches_of sends carried is_carried part_of
 cut_within = offered_within one_rec second_count_failed (is_failed second_count_failed) kept 5 counted_once refl refl
 
 cuts_within : (other : Choice) → IsConsistent one_rec second_count_failed (offers one_rec second_count_failed) other
@@ -156,7 +157,7 @@ counting_notice other ok t h = set_within one_rec 5 (cut_of other 5) counted_onc
 
 notices_within : (other : Choice) → IsConsistent one_rec second_count_failed (offers one_rec second_count_failed) other
     → (p : ℕ) → p < 11 → Within (notice_of one_rec.flow other p) (notice_of one_rec.flow cut_inside p)
-unfolding phi psi kind_of policy_of sender receiver bounds_of max_of parent_of declared_parent loops_of batches_of sends carried is_carried
+unfolding phi psi kind_of policy_of sender receiver bounds_of max_of parent_of declared_parent loops_of batches_of sends carried is_carried part_of
 notices_within other ok =
     let Lies : ℕ → Type 0 = λ p. Within (notice_of one_rec.flow other p) (notice_of one_rec.flow cut_inside p) in
     let counting : Lies 5 = counting_notice other ok in
@@ -214,7 +215,7 @@ abbrev silent_steps : List Outcome
 silent_steps = replicate 11 (did silent)
 
 runs_to_failure : Run one_rec (first_state one_rec) steps_to_failure silent_steps second_count_failed
-unfolding kind_of policy_of sender receiver bounds_of max_of parent_of declared_parent loops_of batches_of sends carried is_carried
+unfolding kind_of policy_of sender receiver bounds_of max_of parent_of declared_parent loops_of batches_of sends carried is_carried part_of
 runs_to_failure =
     plays one_rec first_moves (first_state one_rec) (drop 6 steps_to_failure) (drop 6 silent_steps) second_count_failed refl (
       first_settled,
@@ -223,7 +224,7 @@ runs_to_failure =
     )
 
 pub recovers_inside_inner : RecoversInsideInnerLoop
-unfolding kind_of policy_of sender receiver bounds_of max_of parent_of declared_parent loops_of batches_of sends carried is_carried
+unfolding kind_of policy_of sender receiver bounds_of max_of parent_of declared_parent loops_of batches_of sends carried is_carried part_of
 recovers_inside_inner = record {
   runs =
       runs-go_on one_rec (first_state one_rec) second_count_failed (recovered_state one_rec second_count_failed cut_inside complete_once) steps_to_failure (step.Recover ∷ []) silent_steps

@@ -13,7 +13,8 @@ use Rattle.fw_flow.specs.declared.choice.Counted.{Counted}
 use Rattle.fw_flow.specs.declared.choice.Cut.{Cut}
 use Rattle.fw_flow.specs.declared.choice.Cut.TheVariants.{At, Present}
 use Rattle.fw_flow.specs.declared.event.Message.{Message}
-use Rattle.fw_model.specs.Carried.{carried, is_carried}
+use Rattle.fw_flow.specs.KeyParts.{is_carried, part_of}
+use Rattle.fw_model.specs.Carried.{carried}
 use Rattle.fw_model.specs.Choice.{IsCandidate, kept, until}
 use Rattle.fw_model.specs.Covers.{covers_in, stamps_from}
 use Rattle.fw_model.specs.Machine.{is_failed}
@@ -162,7 +163,7 @@ delivered_same (suc (suc d)) l cut o = absurd (omega arith)
 
 discarded_same : (e : ℕ) → e < 2 → (cut : Cut) → IsOffered total_flow offers_of_totals (sender total_flow e) cut
     → (covers_of total_flow offers_of_totals).discarded e cut ≡ (covers_in totals output_failed).discarded e cut
-unfolding kind_of policy_of bounds_of receiver sender sends batches_of carried is_carried
+unfolding kind_of policy_of bounds_of receiver sender sends batches_of carried is_carried part_of
 discarded_same zero l Present o = refl
 discarded_same zero l (At f) o =
     ap (cover (bounds_of total_flow 1)) (sent_from_input (frontier_of (bounds_of total_flow 0) f) (valued_at_epoch 3 1 ∷ valued_at_epoch 2 5 ∷ valued_at_epoch 1 10 ∷ []))

@@ -5,7 +5,8 @@ use Rattle.fw_flow.specs.NodeFunction.{sends}
 use Rattle.fw_flow.specs.Projection.{phi}
 use Rattle.fw_flow.specs.declared.event.Event.TheVariants.{Notify as Notified}
 use Rattle.fw_flow.specs.declared.step.Step.{Step}
-use Rattle.fw_model.specs.Carried.{carried, is_carried}
+use Rattle.fw_flow.specs.KeyParts.{is_carried, part_of}
+use Rattle.fw_model.specs.Carried.{carried}
 use Rattle.fw_model.specs.Choice.{until}
 use Rattle.fw_model.specs.Machine.{events, first_state}
 use Rattle.fw_model.specs.Steps.{Outcome, did, silent}
@@ -27,7 +28,7 @@ abbrev outcomes_then : List Outcome
 outcomes_then = outcomes_to_failure ++ did silent ∷ did silent ∷ []
 
 pub one_more_may_be_told : OneMoreMayBeTold
-unfolding kind_of receiver sender sends batches_of bounds_of policy_of phi carried is_carried
+unfolding kind_of receiver sender sends batches_of bounds_of policy_of phi carried is_carried part_of
 one_more_may_be_told = record {
   reached = runs-go_on totals (first_state totals) output_failed last_taken steps_to_failure steps_by_themselves outcomes_to_failure (did silent ∷ did silent ∷ [])
       failure_is_reached.reached (all_written, writes_first.leads, (last_taken, delivers_then.leads, refl));

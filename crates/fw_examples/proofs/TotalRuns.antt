@@ -11,7 +11,8 @@ use Rattle.fw_flow.specs.declared.choice.Choice.{Choice}
 use Rattle.fw_flow.specs.declared.event.Event.TheVariants.{Notify as Notified}
 use Rattle.fw_flow.specs.declared.step.Step.{Step}
 use Rattle.fw_flow.specs.declared.step.Step.TheVariants.{Collect, Progress, Recover}
-use Rattle.fw_model.specs.Carried.{carried, is_carried}
+use Rattle.fw_flow.specs.KeyParts.{is_carried, part_of}
+use Rattle.fw_model.specs.Carried.{carried}
 use Rattle.fw_model.specs.Choice.{IsCandidate, IsChoiceWithin, IsConsistent, IsLargest, IsWatermark, cut_of, ever, kept, until}
 use Rattle.fw_model.specs.Machine.{Machine, first_state, is_failed}
 use Rattle.fw_model.specs.Steps.{Outcome, Run, StepsTo, acked, collected_writes, cuts, did, lows, offers, silent, recs_at_output, with_event}
@@ -64,7 +65,7 @@ abbrev pub ten_acknowledged : Machine
 ten_acknowledged = after_all totals ten_settled ten_last
 
 pub runs_to_two : Run totals (first_state totals) steps_up_to_two outcomes_up_to_two ten_acknowledged
-unfolding kind_of receiver sender sends batches_of bounds_of policy_of phi carried is_carried
+unfolding kind_of receiver sender sends batches_of bounds_of policy_of phi carried is_carried part_of
 runs_to_two =
     plays totals (inject 0 0 ∷ []) (first_state totals) (drop 1 steps_up_to_two) (drop 1 outcomes_up_to_two) ten_acknowledged refl (
       empty_settled,
@@ -83,7 +84,7 @@ runs_to_two =
 -- ---- the collection
 
 pub two_epochs_are_low : IsWatermark totals ten_acknowledged two_epochs_kept
-unfolding kind_of receiver sender sends batches_of bounds_of policy_of phi psi carried is_carried
+unfolding kind_of receiver sender sends batches_of bounds_of policy_of phi psi carried is_carried part_of
 two_epochs_are_low =
     largest_by totals ten_acknowledged (λ p. true) kept two_epochs_kept
     (consistent_by totals ten_acknowledged (λ p. true) kept two_epochs_kept totals_formed refl refl refl refl) refl refl
@@ -118,7 +119,7 @@ abbrev failing : List Move
 failing = ask 1 ∷ inject 0 3 ∷ fail 2 [] ∷ []
 
 runs_to_failure : Run totals two_collected steps_of_failure outcomes_of_failure output_failed
-unfolding kind_of receiver sender sends batches_of bounds_of policy_of phi carried is_carried
+unfolding kind_of receiver sender sends batches_of bounds_of policy_of phi carried is_carried part_of
 runs_to_failure =
     plays totals five_moves two_collected (drop 2 steps_of_failure) (drop 2 outcomes_of_failure) output_failed refl (
       five_summed,
@@ -132,7 +133,7 @@ runs_to_failure =
 
 -- with no step in between that settles
 runs_unsettled : Run totals two_collected steps_unsettled (replicate 5 (did silent)) state_unsettled
-unfolding kind_of receiver sender sends batches_of bounds_of policy_of phi carried is_carried
+unfolding kind_of receiver sender sends batches_of bounds_of policy_of phi carried is_carried part_of
 runs_unsettled =
     plays totals five_moves two_collected (drop 2 steps_unsettled) (replicate 3 (did silent)) state_unsettled refl (
       five_summed,
@@ -173,13 +174,13 @@ runs_sum state five sum out settled last =
     )
 
 runs_on : Run totals two_collected steps_of_sum outcomes_of_sum (sum_acknowledged two_collected)
-unfolding kind_of receiver sender sends batches_of bounds_of policy_of phi carried is_carried
+unfolding kind_of receiver sender sends batches_of bounds_of policy_of phi carried is_carried part_of
 runs_on =
     runs_sum two_collected refl (notifies totals five_taken 1 (2 ∷ []) (until 3 ∷ until 0 ∷ until 0 ∷ []) totals_formed (lit< tt) refl refl refl) refl
     (settles totals (put_out two_collected) (alike 3) totals_formed refl refl refl 0 (2 ∷ []) (lit< tt) refl refl) refl
 
 runs_again : Run totals come_back steps_of_sum outcomes_of_sum (sum_acknowledged come_back)
-unfolding kind_of receiver sender sends batches_of bounds_of policy_of phi carried is_carried
+unfolding kind_of receiver sender sends batches_of bounds_of policy_of phi carried is_carried part_of
 runs_again =
     runs_sum come_back refl (notifies totals (after_all totals come_back five_moves) 1 (2 ∷ []) (until 3 ∷ until 0 ∷ until 0 ∷ []) totals_formed (lit< tt) refl refl refl) refl
     (settles totals (put_out come_back) (alike 3) totals_formed refl refl refl 0 (2 ∷ []) (lit< tt) refl refl) refl
@@ -192,27 +193,27 @@ unfolding kind_of policy_of bounds_of batches_of receiver
 two_offered lost = offered_by totals output_failed lost kept two_epochs_kept refl
 
 pub kept_consistent : (lost : ℕ → Bool) → IsConsistent totals output_failed (IsCandidate totals output_failed lost kept) two_epochs_kept
-unfolding kind_of receiver sender sends batches_of bounds_of policy_of phi psi carried is_carried
+unfolding kind_of receiver sender sends batches_of bounds_of policy_of phi psi carried is_carried part_of
 kept_consistent lost = consistent_by totals output_failed lost kept two_epochs_kept totals_formed refl refl refl refl
 
 -- with fewer notices at the output
 pub noting_less : (lost : ℕ → Bool) → IsConsistent totals output_failed (IsCandidate totals output_failed lost kept) (two_kept_noting (until 0))
-unfolding kind_of receiver sender sends batches_of bounds_of policy_of phi psi carried is_carried
+unfolding kind_of receiver sender sends batches_of bounds_of policy_of phi psi carried is_carried part_of
 noting_less lost = consistent_by totals output_failed lost kept (two_kept_noting (until 0)) totals_formed refl refl refl refl
 
 pub noting_none : (lost : ℕ → Bool) → IsConsistent totals output_failed (IsCandidate totals output_failed lost ever) (two_kept_noting (until 0))
-unfolding kind_of receiver sender sends batches_of bounds_of policy_of phi psi carried is_carried
+unfolding kind_of receiver sender sends batches_of bounds_of policy_of phi psi carried is_carried part_of
 noting_none lost = consistent_by totals output_failed lost ever (two_kept_noting (until 0)) totals_formed refl refl refl refl
 
 -- and of epoch 0 alone
 pub epoch_consistent : (lost : ℕ → Bool) → IsConsistent totals output_failed (IsCandidate totals output_failed lost ever) epoch_kept
-unfolding kind_of receiver sender sends batches_of bounds_of policy_of phi psi carried is_carried
+unfolding kind_of receiver sender sends batches_of bounds_of policy_of phi psi carried is_carried part_of
 epoch_consistent lost = consistent_by totals output_failed lost ever epoch_kept totals_formed refl refl refl refl
 
 -- The output settled no more; neither the running total nor the input can keep an epoch that it sent and that the receiver does
 -- not keep.
 kept_above : (other : Choice) → IsConsistent totals output_failed (offers totals output_failed) other → IsChoiceWithin totals.flow other two_epochs_kept
-unfolding kind_of receiver sender sends batches_of bounds_of policy_of carried is_carried
+unfolding kind_of receiver sender sends batches_of bounds_of policy_of carried is_carried part_of
 kept_above other is =
     let at_out = offered_within totals output_failed (is_failed output_failed) kept 2 (until 2) refl refl (cut_of other 2) (is.offered 2 (lit< tt)) in
     let at_run = sender_within totals output_failed _ other is 1 (lit< tt) (until 2) (2 ∷ []) (2 ∷ []) at_out refl refl (λ sent f. refl) refl refl refl in

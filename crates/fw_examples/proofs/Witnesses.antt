@@ -16,7 +16,8 @@ use Rattle.fw_flow.specs.declared.choice.Choice.{Choice}
 use Rattle.fw_flow.specs.declared.event.Event.TheVariants.{Notify as Notified}
 use Rattle.fw_flow.specs.declared.step.Step.{Step}
 use Rattle.fw_flow.specs.declared.step.Step.TheVariants.{Recover}
-use Rattle.fw_model.specs.Carried.{carried, is_carried, carried_timed}
+use Rattle.fw_flow.specs.KeyParts.{is_carried, part_of}
+use Rattle.fw_model.specs.Carried.{carried, carried_timed}
 use Rattle.fw_model.specs.Auto.{AreIdle, IsFirstEnabled, IsIdle, auto_steps}
 use Rattle.fw_model.specs.Choice.{ever, kept, until}
 use Rattle.fw_model.specs.Choosing.{CanChoose}
@@ -83,7 +84,7 @@ abbrev outcomes_shown : List Outcome
 outcomes_shown = replicate 9 (did silent)
 
 numbers_run : Run numbers (first_state numbers) steps_taken outcomes_shown both_numbered
-unfolding kind_of receiver sender sends batches_of bounds_of policy_of phi carried is_carried
+unfolding kind_of receiver sender sends batches_of bounds_of policy_of phi carried is_carried part_of
 numbers_run =
     plays numbers first_moves (first_state numbers) (drop 3 steps_taken) (drop 3 outcomes_shown) both_numbered refl (
       first_numbered,
@@ -105,7 +106,7 @@ unfolding kind_of batches_of
 totals_system = system_by totals totals_formed refl refl
 
 rounds_solve : IsDenotation totals totals_denoted
-unfolding kind_of sender in_edges batches_of carried_timed is_carried
+unfolding kind_of sender in_edges batches_of carried_timed is_carried part_of receiver
 rounds_solve zero = refl
 rounds_solve (suc zero) = refl
 rounds_solve (suc (suc e)) = refl
@@ -114,7 +115,7 @@ pub totals_are_well_formed : TotalsAreWellFormed
 totals_are_well_formed = record { well_formed = totals_system; epochs = has_epochs totals totals_system; denoted = rounds_solve }
 
 pub failure_is_reached : FailureIsReached
-unfolding kind_of sender receiver sends batches_of bounds_of in_edges carried is_carried carried_timed
+unfolding kind_of sender receiver sends batches_of bounds_of in_edges carried is_carried carried_timed part_of
 failure_is_reached = record {
   no_recovery = (refl, (refl, (refl, (refl, (refl, (refl, (refl, (refl, (refl, (refl, (refl, (refl, (refl, (refl, (refl, (refl, (refl, (refl, (refl, (refl, (refl, tt)))))))))))))))))))));
   reached = failed_run;
@@ -136,7 +137,7 @@ two_are_legal =
     (after_failure [] [] come_back refl)
 
 pub recovery_is_reached : RecoveryIsReached
-unfolding kind_of sender receiver sends batches_of bounds_of in_edges carried is_carried carried_timed
+unfolding kind_of sender receiver sends batches_of bounds_of in_edges carried is_carried carried_timed part_of
 recovery_is_reached = record {
   step = recovers;
   before = refl;
@@ -157,7 +158,7 @@ two_runs_meet = record {
 }
 
 pub some_is_settled : SomeIsSettled
-unfolding kind_of receiver sender sends batches_of bounds_of carried is_carried
+unfolding kind_of receiver sender sends batches_of bounds_of carried is_carried part_of
 some_is_settled = record {
   denoted = settled-stays_denoted totals totals_denoted totals_system rounds_solve steps_to_failure outcomes_to_failure output_failed failed_run;
   settled = refl;
@@ -191,7 +192,7 @@ unfolding bounds_of kind_of
 low_watermark_rises = (ten_acknowledged, two_collected, runs_to_two, collects, refl, refl)
 
 pub more_is_complete : MoreIsComplete
-unfolding kind_of receiver sender sends batches_of bounds_of carried is_carried
+unfolding kind_of receiver sender sends batches_of bounds_of carried is_carried part_of
 more_is_complete = record {
   complete = complete_by totals (next_epochs ++ two_epochs) (until 4 ∷ until 3 ∷ until 2 ∷ []) totals_formed refl refl;
   more = record { node = 0; at = 3 ∷ []; declared = lit< tt; live = refl; complete = refl; unsettled = refl };
@@ -200,7 +201,7 @@ more_is_complete = record {
 -- ---- witnesses for the laws of deliveries
 
 pub an_epoch_is_closed : AnEpochIsClosed
-unfolding kind_of receiver sender sends batches_of bounds_of in_edges phi carried is_carried carried_timed
+unfolding kind_of receiver sender sends batches_of bounds_of in_edges phi carried is_carried carried_timed part_of
 an_epoch_is_closed = record {
   closed = closed_by totals two_epochs 1 (1 ∷ []) (alike 2) totals_formed (lit< tt) refl;
   goes_on = total_is_legal;
@@ -213,7 +214,7 @@ pub notified_and_goes_on : NotifiedAndGoesOn
 notified_and_goes_on = total_is_legal
 
 pub two_epochs_are_complete : TwoEpochsAreComplete
-unfolding kind_of receiver sender sends batches_of bounds_of in_edges phi carried is_carried carried_timed
+unfolding kind_of receiver sender sends batches_of bounds_of in_edges phi carried is_carried carried_timed part_of
 two_epochs_are_complete = record {
   legal = two_are_legal;
   admissible = admissible_by totals two_epochs (alike 2) totals_formed refl;
@@ -226,13 +227,13 @@ two_epochs_are_complete = record {
 }
 
 pub one_is_on_its_way : OneIsOnItsWay
-unfolding kind_of receiver sender sends batches_of bounds_of in_edges carried is_carried carried_timed
+unfolding kind_of receiver sender sends batches_of bounds_of in_edges carried is_carried carried_timed part_of
 one_is_on_its_way = record { legal = total_is_legal; denoted = refl; sent_once = refl; not_delivered = refl }
 
 -- ---- witnesses for the laws of choices
 
 pub choices_unite : ChoicesUnite
-unfolding kind_of policy_of sender receiver sends bounds_of batches_of carried is_carried
+unfolding kind_of policy_of sender receiver sends bounds_of batches_of carried is_carried part_of
 choices_unite = record {
   one = noting_none (is_failed output_failed);
   other = epoch_consistent (is_failed output_failed);
@@ -287,7 +288,7 @@ totals_meet : MeetsInclusions totals output_failed two_epochs_kept
 totals_meet = consistent-meets totals output_failed (is_failed output_failed) kept two_epochs_kept (kept_consistent (is_failed output_failed))
 
 pub totals_are_filtered : TotalsAreFiltered
-unfolding kind_of policy_of receiver sender sends batches_of bounds_of carried is_carried
+unfolding kind_of policy_of receiver sender sends batches_of bounds_of carried is_carried part_of
 totals_are_filtered = record {
   legal = total_is_legal;
   consistently = choice-consistent totals output_failed two_epochs_kept totals_formed totals_meet;
@@ -306,7 +307,7 @@ loop_meets : MeetsInclusions two_batches counting_failed restored
 loop_meets = consistent-meets two_batches counting_failed (is_failed counting_failed) kept restored restored_is_largest.consistent
 
 pub loop_is_filtered : LoopIsFiltered
-unfolding kind_of receiver sender sends bounds_of batches_of max_of parent_of declared_parent loops_of carried is_carried
+unfolding kind_of receiver sender sends bounds_of batches_of max_of parent_of declared_parent loops_of carried is_carried part_of
 loop_is_filtered = record {
   well_formed = is_well_formed;
   epochs = loop_is_reached.epochs;
@@ -329,14 +330,14 @@ loop_is_filtered = record {
 -- ---- the sequence
 
 numbers_come_from_kept : ComeFromKept numbers numbered_both kept_epoch
-unfolding kind_of receiver sender sends batches_of bounds_of phi carried is_carried
+unfolding kind_of receiver sender sends batches_of bounds_of phi carried is_carried part_of
 numbers_come_from_kept zero = ((λ k. absurd (false≢true k)), ((λ k. refl), ((λ k. refl), tt)))
 numbers_come_from_kept (suc zero) = ((λ k. refl), ((λ k. refl), tt))
 numbers_come_from_kept (suc (suc zero)) = tt
 numbers_come_from_kept (suc (suc (suc e))) = each-one _ (delivered_messages numbered_both (suc (suc (suc e)))) (λ m k. and_from _ _ (and_parts _ _ k).0 k)
 
 pub sequence_is_filtered : SequenceIsFiltered
-unfolding kind_of receiver sender sends batches_of bounds_of phi carried is_carried
+unfolding kind_of receiver sender sends batches_of bounds_of phi carried is_carried part_of
 sequence_is_filtered = record {
   well_formed = regroup_is_well_formed;
   epochs = numbers_have_epochs;
@@ -351,7 +352,7 @@ sequence_is_filtered = record {
 }
 
 pub numbers_are_delivered : NumbersAreDelivered
-unfolding kind_of receiver sender sends batches_of bounds_of carried is_carried
+unfolding kind_of receiver sender sends batches_of bounds_of carried is_carried part_of
 numbers_are_delivered = record {
   legal = numbers_are_legal;
   sequence = refl;
@@ -366,7 +367,7 @@ numbers_are_delivered = record {
 same_is_sent : (e : ℕ) → sender total_flow e ≡ 1
     → messages_from (node_frontier total_flow 1 (until 2)) (sent_messages totals two_epochs e)
     ≡ messages_from (node_frontier total_flow 1 (until 2)) (sent_messages totals (next_epochs ++ two_epochs) e)
-unfolding kind_of receiver sender sends batches_of bounds_of in_edges carried is_carried carried_timed
+unfolding kind_of receiver sender sends batches_of bounds_of in_edges carried is_carried carried_timed part_of
 same_is_sent zero s = absurd (omega (arith, s))
 same_is_sent (suc zero) s = refl
 same_is_sent (suc (suc e)) s = absurd (omega (arith, s))
@@ -416,7 +417,7 @@ writes_first = record {
 }
 
 pub delivers_then : IsFirstEnabled totals all_written (auto_steps total_flow) (step.Deliver 0 None) last_taken silent
-unfolding kind_of receiver sender sends batches_of bounds_of policy_of carried is_carried
+unfolding kind_of receiver sender sends batches_of bounds_of policy_of carried is_carried part_of
 delivers_then = record {
   earlier = step.Persist ∷ [];
   later = drop 2 (auto_steps total_flow);

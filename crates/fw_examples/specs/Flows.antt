@@ -23,7 +23,7 @@ pair key value = record { key = key; value = value }
 
 -- a node
 abbrev pub node : List ℕ → Kind → Policy → Node
-node name kind policy = record { name = name; kind = kind; policy = policy }
+node name kind policy = record { name = name; kind = kind; policy = policy; part = None }
 
 -- an edge
 abbrev pub edge : List ℕ → ℕ → ℕ → Edge
@@ -173,16 +173,17 @@ abbrev pub two_sources_flow : Dataflow
 two_sources_flow = record {
   loops = [];
   nodes =
-      record { name = codes "s1"; kind = Input; policy = policy.None }
-      ∷ record { name = codes "s2"; kind = Input; policy = policy.None }
+      record { name = codes "s1"; kind = Input; policy = policy.None; part = None }
+      ∷ record { name = codes "s2"; kind = Input; policy = policy.None; part = None }
       ∷ record {
         name = codes "low";
         kind = Select (record { condition = record { field = Value; comparison = Less; term = term.Number 10 }; assignment = None }) None;
         policy = policy.None;
+        part = None;
       }
-      ∷ record { name = codes "mix"; kind = Concat None; policy = policy.Logged }
-      ∷ record { name = codes "tot"; kind = Sum None; policy = policy.None }
-      ∷ record { name = codes "out"; kind = OutputEpoch; policy = policy.None }
+      ∷ record { name = codes "mix"; kind = Concat None; policy = policy.Logged; part = None }
+      ∷ record { name = codes "tot"; kind = Sum None; policy = policy.None; part = None }
+      ∷ record { name = codes "out"; kind = OutputEpoch; policy = policy.None; part = None }
       ∷ [];
   edges =
       record { name = codes "a"; sender = 0; receiver = 3 }

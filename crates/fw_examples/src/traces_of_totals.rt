@@ -4,6 +4,7 @@ ghost use Rattle.fw_flow.specs.declared.builder.BuildFault.TheVariants.{NoMemory
 ghost use Rattle.fw_examples.specs.RunningTotal.{total_flow};
 ghost use Rattle.fw_examples.specs.Traced.{AreTracesOfTwo};
 
+use fw_bag::Rec;
 use fw_flow::{BuildFault, EdgeId, Flow, FlowBuilder, NodeId, Policy};
 use fw_progress::Traces;
 use fw_time::Stamp;
@@ -30,7 +31,7 @@ pub fn two_epochs_are_traced(alloc: Global) -> Result<Traces, BuildFault>
     let source = NodeId::at(0);
     let total = NodeId::at(1);
     let epoch = Stamp::new(&[1]);
-    let sent = [Stamp::new(&[1])];
+    let sent = [(Stamp::new(&[1]), Rec { key: 1, value: 10 })];
     let mut traces = Traces::new(alloc, flow)?;
     traces.injected(flow, source, 0, &[])?;
     traces.injected(flow, source, 1, &sent)?;

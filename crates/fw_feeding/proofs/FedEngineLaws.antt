@@ -17,6 +17,7 @@ use Rattle.fw_flow.specs.NodeFunction.{event_stamp}
 use Rattle.fw_flow.specs.Projection.{count_from, IsSentTable}
 use Rattle.fw_flow.specs.Restoring.{can_resend}
 use Rattle.fw_flow.specs.SentTable.{EpochsAscend}
+use Rattle.fw_model.specs.Alike.{StandForCauses}
 use Rattle.fw_model.specs.EventStamps.{causes_of, causes_in, base_of_sent, tells_sent, AreStampsIf}
 use Rattle.fw_model.specs.Filtering.{messages_from, messages_outside}
 use Rattle.fw_model.specs.History.{was_notified, IsAdmissible}
@@ -28,7 +29,7 @@ use Rattle.fw_model.specs.Machine.{Written as WrittenBy}
 use Rattle.fw_model.specs.Offers.{counted_on_edge, stamps_on_from}
 use Rattle.fw_model.specs.SortedMessages.{sorted_messages}
 use Rattle.fw_model.specs.Steps.{did}
-use Rattle.fw_model.specs.Thinned.{IsThinned, IsThinnedIf}
+use Rattle.fw_model.specs.Thinned.{IsThinned}
 use Rattle.fw_policy.specs.Entries.{IsRecorded}
 use Rattle.fw_policy.specs.View.{base_of, IsLostAt}
 use Rattle.fw_progress.specs.Counts.{is_in}
@@ -86,7 +87,7 @@ trace-alike flow now later state a floor p traces t =
     record {
       delivered = t.delivered;
       notified = t.notified;
-      sent = λ d l r k. subst (λ ms. IsThinnedIf (takes && tells_sent flow p) (base_of_sent flow p base) (causes_in ms) (stamps_where_sent traces d))
+      sent = λ d l r k. subst (λ ms. StandForCauses flow p (takes && tells_sent flow p) (base_of_sent flow p base) (causes_in ms) (stamps_where_sent traces d))
           (messages-alike flow now later (events state.history) a.injected d) (t.sent d l r k);
       counted = λ k. subst (λ ms. IsSentTally base ms (counted_of traces p)) same (t.counted k);
     }
@@ -130,7 +131,7 @@ stamps-alike whole flow now later h a p base stamps k = record {
   notified = k.notified;
   sent = λ s e l q. let stand = k.sent s e l q in record {
     of_cause = stand.of_cause;
-    thinned = subst (λ ms. IsThinnedIf (whole && tells_sent flow p) (base_of_sent flow p base) (causes_in ms) (causes_of (counted_on_edge e stamps.sent))) (messages-alike flow now later h a e) stand.thinned;
+    thinned = subst (λ ms. StandForCauses flow p (whole && tells_sent flow p) (base_of_sent flow p base) (causes_in ms) (causes_of (counted_on_edge e stamps.sent))) (messages-alike flow now later h a e) stand.thinned;
   };
   numbered = λ s t e l q. subst
       (λ ms. IsThinned (everything (bounds_of flow (receiver flow e))) (map (λ (m : Message). m.at) ms)

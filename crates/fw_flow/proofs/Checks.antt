@@ -39,7 +39,7 @@ GivesOne-loop_in loops d = loop_part loops d.line d.declaration
 
 node_part : (loops : List (List ℕ)) (line : ℕ) (d : Declaration) → (node_in loops (record { line = line; declaration = d }) ≡ []) ⊎ ((a : Node) × (node_in loops (record { line = line; declaration = d }) ≡ a ∷ []))
 node_part loops line (ALoop name max parent) = inl refl
-node_part loops line (ANode name kind policy) = inr (record { name = name; kind = resolved_kind loops kind; policy = policy }, refl)
+node_part loops line (ANode name kind policy) = inr (record { name = name; kind = resolved_kind loops kind; policy = policy; part = None }, refl)
 node_part loops line (AnEdge name s r) = inl refl
 
 pub GivesOne-node_in : (loops : List (List ℕ)) → GivesOne (node_in loops)
@@ -164,7 +164,7 @@ node_place : (raw : List Declared) (i line : ℕ) (name : List ℕ) (kind : RawK
     → slice_get raw i ≡ Some (record { line = line; declaration = ANode name kind policy }) → NodePlace raw name kind (take i raw)
 node_place raw i line name kind policy there =
     let loops = loop_names raw in
-    let node : Node = record { name = name; kind = resolved_kind loops kind; policy = policy } in
+    let node : Node = record { name = name; kind = resolved_kind loops kind; policy = policy; part = None } in
     let count = length-nodes loops (take i raw) in
     let given = subst (λ n. slice_get (flat_map (node_in loops) raw) n ≡ Some node) count
     (slice_get-given (node_in loops) (GivesOne-node_in loops) raw i (record { line = line; declaration = ANode name kind policy }) node there refl) in

@@ -31,7 +31,7 @@ pub record System : Type 0 where
 
 -- what stands past the last node: an idle output
 abbrev pub idle_node : Node
-idle_node = record { name = []; kind = OutputEpoch; policy = policy.None }
+idle_node = record { name = []; kind = OutputEpoch; policy = policy.None; part = None }
 
 -- the places of the nodes, in order
 abbrev pub node_ids : Dataflow → List ℕ

@@ -9,6 +9,7 @@ pub mod DomainText
 pub mod Draft
 pub mod Flow
 pub mod Kind
+pub mod KeyParts
 pub mod KindText
 pub mod Message
 pub mod Names

@@ -1,5 +1,5 @@
 -- What the text of a flow declares, and the dataflow that this is.
-use Rattle.std.specs.Prelude.{◌≡◌, ℕ, ◌<◌, ◌^◌, Bool, not, List, [], ◌∷◌, ◌++◌, length, option_map}
+use Rattle.std.specs.Prelude.{◌≡◌, ℕ, ◌<◌, ◌^◌, Bool, not, List, [], ◌∷◌, ◌++◌, length, None, option_map}
 use Rattle.std.specs.List.{flat_map, position_or_len}
 use Rattle.std.specs.Str.{bytes_eq}
 use Rattle.fw_flow.specs.declared.node.Loop.{Loop}
@@ -100,7 +100,7 @@ node_in loops declared = the_node declared.declaration
   where
     the_node : Declaration → List Node
     the_node (ALoop name max parent) = []
-    the_node (ANode name kind policy) = record { name = name; kind = resolved_kind loops kind; policy = policy } ∷ []
+    the_node (ANode name kind policy) = record { name = name; kind = resolved_kind loops kind; policy = policy; part = None } ∷ []
     the_node (AnEdge name sender receiver) = []
 
 -- the edge that is declared, if one is, with these names of nodes

@@ -16,6 +16,7 @@ mod draft;
 mod event;
 mod flow;
 mod ids;
+mod key_part;
 mod kind;
 pub mod laws;
 mod lists;
@@ -43,6 +44,7 @@ pub use choice::{Choice, Counted, Cut, OfEdge, Offer, Offered, Recorded, Stamps}
 pub use event::{Causes, Event, Message};
 pub use flow::Flow;
 pub use ids::{EdgeId, LoopId, NodeId};
+pub use key_part::{KeyPart, is_of_part};
 pub use kind::{Domain, Kind, Policy, RawKind};
 pub use lists::{CountedMessages, Cuts, Fronts, Notices, OfEdges, Records};
 pub use name::Name;

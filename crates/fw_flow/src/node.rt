@@ -1,5 +1,5 @@
 //! The parts of a dataflow.
-use crate::{Kind, LoopId, Name, NodeId, Policy};
+use crate::{KeyPart, Kind, LoopId, Name, NodeId, Policy};
 
 /// A loop, with its greatest counter.
 #[derive(Debug, Drop)]
@@ -21,6 +21,9 @@ pub struct Node {
     pub kind: Kind,
     /// How it is restored after a failure.
     pub policy: Policy,
+    /// Where it is a replica of a split node, the part of the keys whose recs come to it. It has no meaning at a kind that is
+    /// not `distinct`, `join`, `sum` or `total`.
+    pub part: Option<KeyPart>,
 }
 
 /// An edge from a sender to a receiver.

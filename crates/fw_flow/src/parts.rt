@@ -72,7 +72,12 @@ impl Parts {
             }
             Declaration::Node { name, kind, policy } => {
                 let kind = resolved(&names.loops, kind);
-                self.nodes.push(Node { name, kind, policy })?;
+                self.nodes.push(Node {
+                    name,
+                    kind,
+                    policy,
+                    part: None,
+                })?;
                 self.node_lines.push(line)?;
             }
             Declaration::Edge {

@@ -30,6 +30,7 @@ use Rattle.fw_flow.specs.Dataflow.{Dataflow, node_at, kind_of, policy_of, sender
 use Rattle.fw_flow.specs.DomainText.{name_of_edge, name_of_loop}
 use Rattle.fw_flow.specs.Names.{has_name}
 use Rattle.fw_flow.specs.Raw.{edge_in, edge_name, edge_names, flow_of_declarations, is_new, loop_in, loop_name, loop_names, node_in, node_name, node_names, place_or_end, resolved_kind}
+use Rattle.fw_flow.specs.KeyParts.{HasNoReplicas}
 use Rattle.fw_flow.specs.WellFormed.{IsGroupSize, IsLoopDeclared, IsParentDeclared, IsPolicyAllowed, IsWellFormed}
 use Rattle.fw_flow.proofs.KindLaws.{kind_map-back, loop_of_kind-map}
 use Rattle.fw_flow_text.specs.FlowText.{declared_edge, declared_loop, declared_node, edge_line_of, edge_lines_text, loop_line_of, loop_lines_text, named_kind, node_line_of, node_lines_text, text_of_flow}
@@ -281,6 +282,7 @@ pub record CanBeWritten (flow : Dataflow) : Type 0 where
   pub loops_named : AllByRecursion (λ (l : Loop). is_name l.name ≡ true) flow.loops
   pub nodes_named : AllByRecursion (λ (n : Node). is_name n.name ≡ true) flow.nodes
   pub edges_named : AllByRecursion (λ (e : Edge). is_name e.name ≡ true) flow.edges
+  pub whole : HasNoReplicas flow
   pub numbers : (p : ℕ) → p < length flow.nodes → IsSmallKind (named_kind flow (kind_of flow p))
 
 abbrev loop_names_in : Dataflow → List (List ℕ)
@@ -316,7 +318,7 @@ given_loop names (declares.Edge name s r) = []
 
 abbrev given_node : List (List ℕ) → Declaration → List Node
 given_node names (declares.Loop name max parent) = []
-given_node names (declares.Node name k p) = record { name = name; kind = resolved_kind names k; policy = p } ∷ []
+given_node names (declares.Node name k p) = record { name = name; kind = resolved_kind names k; policy = p; part = None } ∷ []
 given_node names (declares.Edge name s r) = []
 
 abbrev given_edge : List (List ℕ) → Declaration → List Edge
@@ -352,7 +354,10 @@ nodes_back flow h =
     (give_none (given_node names) (of_loop flow) (λ l. refl) flow.loops)
     (give_each (given_node names) (of_node flow) (λ (n : Node). n) flow.nodes
     (each-of_places (λ n. given_node names (of_node flow n) ≡ n ∷ []) idle_node flow.nodes
-    (λ p lt. let n = get_or flow.nodes p idle_node in ap (λ k. record { name = n.name; kind = k; policy = n.policy } ∷ []) (kind_resolved flow h n.kind (h.well_formed.loops_declared p lt)))))
+    (λ p lt.
+    let n = get_or flow.nodes p idle_node in
+    ap (λ k. record { name = n.name; kind = k; policy = n.policy; part = None } ∷ []) (kind_resolved flow h n.kind (h.well_formed.loops_declared p lt))
+    ∙ ap (λ o. record { name = n.name; kind = n.kind; policy = n.policy; part = o } ∷ []) (sym (each-at (λ (m : Node). m.part ≡ None) flow.nodes p idle_node lt h.whole)))))
     (give_none (given_node names) (of_edge flow) (λ e. refl) flow.edges)
     ∙ append-nil (map (λ (n : Node). n) flow.nodes)
     ∙ map_same flow.nodes

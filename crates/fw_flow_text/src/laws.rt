@@ -6,6 +6,7 @@ ghost use Rattle.fw_lines.specs.Lines.{said_lines};
 ghost use Rattle.fw_flow.specs.Dataflow.{system_of};
 ghost use Rattle.fw_flow.specs.Sources.{sources_of, AreInputsOf};
 ghost use Rattle.fw_flow.specs.WellFormed.{IsWellFormedSystem};
+ghost use Rattle.fw_flow.specs.KeyParts.{HasNoReplicas};
 ghost use Rattle.fw_flow_text.specs.BatchesText.{text_of_batches};
 ghost use Rattle.fw_flow_text.specs.FlowText.{text_of_flow};
 ghost use Rattle.fw_flow_text.specs.Grammar.{flow_size_limit, IsAcceptedFlow};
@@ -26,9 +27,10 @@ pub fn words_declare_one_thing()
     ensures { WordsDeclareOneThing }
 {}
 
-/// What `FlowText` prints of a flow is read as that flow, where it has no more bytes than `read_flow` takes.
+/// What `FlowText` prints of a flow without replicas is read as that flow, where it has no more bytes than `read_flow` takes.
 pub fn flow_is_read_back(flow: &Flow)
-    requires { length (text_of_flow flow.now) ≤ flow_size_limit }
+    requires whole { HasNoReplicas flow.now }
+    requires short { length (text_of_flow flow.now) ≤ flow_size_limit }
     ensures { IsAcceptedFlow (text_of_flow flow.now) flow.now }
 {
     flow_is_well_formed(flow);

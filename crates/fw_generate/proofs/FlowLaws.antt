@@ -23,7 +23,7 @@ use Rattle.fw_flow_text.proofs.Reading.{policy_named, policy_at_end, ending_with
 use Rattle.fw_generate.specs.Texts.{flow_text}
 
 abbrev node : List ℕ → Kind → Policy → Node
-node name kind policy = record { name = name; kind = kind; policy = policy }
+node name kind policy = record { name = name; kind = kind; policy = policy; part = None }
 
 abbrev edge : List ℕ → ℕ → ℕ → Edge
 edge name sender receiver = record { name = name; sender = sender; receiver = receiver }

@@ -92,6 +92,7 @@ pub mod SendingLaws
 pub mod SendsLaws
 pub mod SentLaws
 pub mod SentStandLaws
+pub mod AlikeLaws
 pub mod SequenceLaws
 pub mod SequencedLaws
 pub mod SettleLaws

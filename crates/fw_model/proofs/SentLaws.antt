@@ -12,7 +12,8 @@ use Rattle.fw_flow.specs.declared.event.Message.{Message}
 use Rattle.fw_flow.specs.WholeBags.{Timed}
 use Rattle.fw_flow.specs.Dataflow.{System, Dataflow}
 use Rattle.fw_flow.specs.Message.{message_cmp, is_message_among, messages_without, messages_less}
-use Rattle.fw_model.specs.Carried.{carried, carried_timed, is_carried}
+use Rattle.fw_flow.specs.KeyParts.{is_carried}
+use Rattle.fw_model.specs.Carried.{carried, carried_timed}
 use Rattle.fw_model.specs.History.{some_at, sent_messages, delivered_messages, pending_messages, IsEnabled, IsLegal}
 use Rattle.fw_model.specs.LawsOfPending.{sent_on}
 use Rattle.fw_model.proofs.CarriedLaws.{sent-more}

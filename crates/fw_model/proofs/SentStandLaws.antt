@@ -14,6 +14,7 @@ use Rattle.fw_flow.specs.declared.event.Event.{Event}
 use Rattle.fw_flow.specs.declared.event.Message.{Message}
 use Rattle.fw_flow.specs.Dataflow.{System, kind_of, sender, bounds_of, send_stamp, is_sequence_kind}
 use Rattle.fw_flow.specs.Projection.{all_inside, events_at}
+use Rattle.fw_model.specs.Alike.{SendAlike}
 use Rattle.fw_model.specs.Covers as machine
 use Rattle.fw_model.specs.History.{sent_messages}
 use Rattle.fw_model.proofs.CarriedLaws.{carried-each}
@@ -183,6 +184,32 @@ all-send at causes send (x ∷ xs) a =
     let c = a.0 in
     subst (λ (cs : List Stamp). Send send (cs ++ flat_map causes xs)) (sym c.2) ((at x, c.1), all-send at causes send xs a.1)
 
+-- ---- causes that send alike
+
+pub alike-back : (send : Stamp → Option Stamp) (base : Frontier) (cs ds : List Stamp) → SendAlike send base cs ds → SendAlike send base ds cs
+alike-back send base cs ds a = record {
+  outside = λ t e. let o = a.outside t e in (o.1, o.0);
+  there = a.back;
+  back = a.there;
+}
+
+-- what one list sends over, the other does
+alike-over : (send : Stamp → Option Stamp) (base f : Frontier) (cs ds : List Stamp) (u : Stamp) → Within base f → SendAlike send base cs ds
+    → SendsOver send f cs u → SendsOver send f ds u
+alike-over send base f cs ds u w a k = elim (cases_Bool (base k.cause)) [
+  | inl i ↦
+      let o = a.there k.cause (one-contained k.cause cs k.there) i in
+      record { cause = o.one; at = k.at; there = contained-one o.one ds o.there; inside = w o.one o.inside; sends = o.same ∙ k.sends; above = k.above }
+  | inr n ↦ record {
+    cause = k.cause;
+    at = k.at;
+    there = contained-one k.cause ds ((a.outside k.cause n).0 (one-contained k.cause cs k.there));
+    inside = k.inside;
+    sends = k.sends;
+    above = k.above;
+  }
+]
+
 -- ---- the law
 
 -- what stands for sent messages covers the same as these, from inside each set that holds the base
@@ -195,6 +222,9 @@ sent-covers sys h e base ms n s d f w b = λ i t. at t i
   where
     p : ℕ
     p = sender sys.flow e
+
+    causes : List Stamp
+    causes = causes_in (sent_messages sys h e)
 
     send : Stamp → Option Stamp
     send t = send_stamp sys.flow (sender sys.flow e) t
@@ -215,16 +245,16 @@ sent-covers sys h e base ms n s d f w b = λ i t. at t i
 
     there : (t : Stamp) → ours t ≡ true → all t ≡ true
     there t k =
-        let o = all-over send true base f (causes_in (sent_messages sys h e)) (causes_of ms) t s.thinned
-        (over-from (λ (m : Counted). m.at) (λ (m : Counted). m.causes) send f ms t s.of_cause k) in
+        let o = alike-over send base f s.thinned.all causes t w (alike-back send base causes s.thinned.all (s.thinned.alike refl))
+        (all-over send true base f s.thinned.all (causes_of ms) t s.thinned.thinned (over-from (λ (m : Counted). m.at) (λ (m : Counted). m.causes) send f ms t s.of_cause k)) in
         from-over (λ (m : Message). m.at) (λ (m : Message). m.causes) send f (sent_messages sys h e) t theirs o.cause o.at o.there o.inside o.sends o.above
 
     back : (t : Stamp) → all t ≡ true → ours t ≡ true
     back t k =
-        let o = thinned-over send base f (causes_in (sent_messages sys h e)) (causes_of ms) t
-        (thinned-whole base (causes_in (sent_messages sys h e)) (causes_of ms) s.thinned) w order
+        let o = thinned-over send base f s.thinned.all (causes_of ms) t (thinned-whole base s.thinned.all (causes_of ms) s.thinned.thinned) w order
         (all-send (λ (m : Counted). m.at) (λ (m : Counted). m.causes) send ms s.of_cause)
-        (over-from (λ (m : Message). m.at) (λ (m : Message). m.causes) send f (sent_messages sys h e) t theirs k) in
+        (alike-over send base f causes s.thinned.all t w (s.thinned.alike refl)
+        (over-from (λ (m : Message). m.at) (λ (m : Message). m.causes) send f (sent_messages sys h e) t theirs k)) in
         from-over (λ (m : Counted). m.at) (λ (m : Counted). m.causes) send f ms t s.of_cause o.cause o.at o.there o.inside o.sends o.above
 
     at : (t : Stamp) → (in_domain b t && ours t) ≡ (in_domain b t && all t)
@@ -233,12 +263,12 @@ sent-covers sys h e base ms n s d f w b = λ i t. at t i
 -- ---- where perhaps not the whole is kept
 
 -- what stands for sent messages covers no more than these from inside each set, and these besides at most what comes from the base
-pub sent_outside-covers : (whole : Bool) (sys : System) (h : List Event) (e : ℕ) (base : Frontier) (ms : List Counted) → is_sequence_kind (kind_of sys.flow (sender sys.flow e)) ≡ false
-    → StandForSent whole sys h (sender sys.flow e) base e ms → (f : Frontier) (b : Bounds)
+pub sent_outside-covers : (sys : System) (h : List Event) (e : ℕ) (base : Frontier) (ms : List Counted) → is_sequence_kind (kind_of sys.flow (sender sys.flow e)) ≡ false
+    → StandForSent false sys h (sender sys.flow e) base e ms → (f : Frontier) (b : Bounds)
     → IsPoorer (cover b (map (λ (m : Counted). m.at) (filter (λ (m : Counted). all_inside f m.causes) ms))) (cover b (machine.stamps_from f (sent_messages sys h e)))
     (cover b (machine.stamps_from base (sent_messages sys h e)))
 unfolding IsOfItsCause
-sent_outside-covers whole sys h e base ms n s f b = record {
+sent_outside-covers sys h e base ms n s f b = record {
   within = λ t i. let p = and_parts (in_domain b t) (ours t) i in and_from (in_domain b t) (all f t) p.0 (there t p.1);
   rest = λ t i.
       let p = and_parts (in_domain b t) (all f t) i in
@@ -248,6 +278,9 @@ sent_outside-covers whole sys h e base ms n s f b = record {
       ];
 }
   where
+    thin : IsThinnedIf false base (causes_in (sent_messages sys h e)) (causes_of ms)
+    thin = subst (λ ss. IsThinnedIf false base ss (causes_of ms)) (s.thinned.same refl) s.thinned.thinned
+
     send : Stamp → Option Stamp
     send t = send_stamp sys.flow (sender sys.flow e) t
 
@@ -264,7 +297,7 @@ sent_outside-covers whole sys h e base ms n s f b = record {
 
     there : (t : Stamp) → ours t ≡ true → all f t ≡ true
     there t k =
-        let o = all-over send whole base f (causes_in (sent_messages sys h e)) (causes_of ms) t s.thinned
+        let o = all-over send false base f (causes_in (sent_messages sys h e)) (causes_of ms) t thin
         (over-from (λ (m : Counted). m.at) (λ (m : Counted). m.causes) send f ms t s.of_cause k) in
         from-over (λ (m : Message). m.at) (λ (m : Message). m.causes) send f (sent_messages sys h e) t theirs o.cause o.at o.there o.inside o.sends o.above
 
@@ -275,7 +308,7 @@ sent_outside-covers whole sys h e base ms n s f b = record {
           | inl i ↦ inr (from-over (λ (m : Message). m.at) (λ (m : Message). m.causes) send base (sent_messages sys h e) t theirs o.cause o.at o.there i o.sends o.above)
           | inr j ↦ inl (from-over (λ (m : Counted). m.at) (λ (m : Counted). m.causes) send f ms t s.of_cause o.cause o.at
               (contained-one o.cause (causes_of ms)
-              (each-contained (λ x. base x ≡ false → Contains (causes_of ms) x) o.cause (causes_in (sent_messages sys h e)) (one-contained o.cause (causes_in (sent_messages sys h e)) o.there) s.thinned.outside j))
+              (each-contained (λ x. base x ≡ false → Contains (causes_of ms) x) o.cause (causes_in (sent_messages sys h e)) (one-contained o.cause (causes_in (sent_messages sys h e)) o.there) thin.outside j))
               o.inside o.sends o.above)
         ]
 

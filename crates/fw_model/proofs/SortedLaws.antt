@@ -12,7 +12,8 @@ use Rattle.fw_flow.proofs.MessageLaws.{message_total, message_cmp-same, message_
 use Rattle.fw_model.proofs.AscentLaws.{IsAscentOf, ascending-put, each-put, put-weigh, same_by_copies}
 use Rattle.fw_model.proofs.WeightLaws.{weigh}
 use Rattle.fw_model.proofs.SentLaws.{copy}
-use Rattle.fw_model.specs.Carried.{carried, is_carried}
+use Rattle.fw_flow.specs.KeyParts.{is_carried}
+use Rattle.fw_model.specs.Carried.{carried}
 use Rattle.fw_model.specs.SortedMessages.{with_message, sorted_messages, with_messages}
 
 -- ---- ascending lists

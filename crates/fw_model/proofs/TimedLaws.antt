@@ -113,7 +113,7 @@ how_often-cons : (q x : Timed) (xs : List Timed) → how_often_timed q (x ∷ xs
 how_often-cons q x xs = counted (is_eq (timed_cmp q x)) (how_often_timed q xs)
 
 -- how often is what the list weighs by it
-how_often-weigh : (q : Timed) (xs : List Timed) → how_often_timed q xs ≡ weigh (copy_by timed_cmp q) xs
+pub how_often-weigh : (q : Timed) (xs : List Timed) → how_often_timed q xs ≡ weigh (copy_by timed_cmp q) xs
 unfolding weigh
 how_often-weigh q [] = refl
 how_often-weigh q (x ∷ xs) = omega (arith, how_often-cons q x xs, how_often-weigh q xs)

@@ -9,6 +9,7 @@ use Rattle.fw_flow.specs.declared.event.Event.{Event}
 use Rattle.fw_flow.specs.declared.event.Message.{Message}
 use Rattle.fw_flow.specs.Dataflow.{System, Dataflow, kind_of, policy_of, sender, receiver, bounds_of, send_stamp, is_sequence_kind}
 use Rattle.fw_flow.specs.Restoring.{can_resend}
+use Rattle.fw_model.specs.Alike.{StandForCauses}
 use Rattle.fw_model.specs.Covers.{stamp_of_notice}
 use Rattle.fw_model.specs.History.{delivered_messages, sent_messages}
 use Rattle.fw_model.specs.Offers.{AreAtEdgeStamps, counted_on_edge, stamps_on, stamps_on_from}
@@ -28,10 +29,10 @@ abbrev pub IsOfCause : Dataflow → ℕ → Counted → Type 0
 IsOfCause flow p m = (t : Stamp) × (send_stamp flow p t ≡ Some m.at) × (m.causes ≡ t ∷ [])
 
 -- Messages on edge e stand for those that node p sent there, which is no sequence: they are at the send stamps of their
--- causes, and the causes are those of what was sent, thinned, perhaps not the whole.
+-- causes, and the causes stand for those of what was sent, perhaps not the whole.
 pub record StandForSent (whole : Bool) (sys : System) (h : List Event) (p : ℕ) (base : Frontier) (e : ℕ) (ms : List Counted) : Type 0 where
   pub of_cause : AllByRecursion (IsOfCause sys.flow p) ms
-  pub thinned : IsThinnedIf whole base (causes_in (sent_messages sys h e)) (causes_of ms)
+  pub thinned : StandForCauses sys.flow p whole base (causes_in (sent_messages sys h e)) (causes_of ms)
 
 -- Messages stand for those that a sequence sent on edge e: they are at these numbers, thinned everywhere, so that one is at
 -- the last number at least.

@@ -1,3 +1,4 @@
+pub mod Alike
 pub mod Acknowledgements
 pub mod Auto
 pub mod Carried

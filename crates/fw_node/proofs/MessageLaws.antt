@@ -37,6 +37,14 @@ messages-length cause s = ap length (messages-caused cause s) ∙ caused-length 
 pub messages-at : (cause : Stamp) (s : Sends) → map (λ (m : Message). m.at) (messages_of cause s) ≡ stamps_of s
 messages-at cause s = ap (map (λ (m : Message). m.at)) (messages-caused cause s) ∙ caused-at cause (sends_list s)
 
+caused-recs : (cause : Stamp) (sent : List (Stamp × Rec)) → without_causes (caused_by cause sent) ≡ sent
+caused-recs cause [] = refl
+caused-recs cause (x ∷ xs) = ap (λ (ys : List (Stamp × Rec)). x ∷ ys) (caused-recs cause xs)
+
+-- the recs of messages of one cause are those that are sent
+pub messages-recs : (cause : Stamp) (s : Sends) → without_causes (messages_of cause s) ≡ sends_list s
+messages-recs cause s = ap without_causes (messages-caused cause s) ∙ caused-recs cause (sends_list s)
+
 -- and what holds of the cause holds of each of theirs
 pub messages-each_cause : (P : Stamp → Type 0) (cause : Stamp) (s : Sends) → P cause → AllByRecursion (λ (m : Message). AllByRecursion P m.causes) (messages_of cause s)
 messages-each_cause P cause s k =

@@ -23,7 +23,7 @@ use Rattle.fw_flow.specs.WellFormed.{IsWellFormed}
 use Rattle.fw_model.specs.Choice.{kept, cut_of, logged_history, AllLogged, IsRestorable}
 use Rattle.fw_model.specs.Choosing.{choice_at}
 use Rattle.fw_model.specs.Covers.{takes_its_cut, takes_its_notices, covers_in, stamp_of_notice, stamps_from, stamps_inside, notified_inside, discarded_at}
-use Rattle.fw_model.specs.EventStamps.{tells_sent, StandForSent, AreStampsIf, AreStampsOf}
+use Rattle.fw_model.specs.EventStamps.{base_of_sent, tells_sent, StandForSent, AreStampsIf, AreStampsOf}
 use Rattle.fw_model.specs.History.{delivered_messages, sent_messages}
 use Rattle.fw_model.specs.Machine.{Machine, events, front_of}
 use Rattle.fw_model.specs.Offers.{notified_of, delivered_to, offered_sent, IsOffered, stamps_on, stamps_on_from, counted_on_edge, delivered_in, sent_in, notified_in, recorded_delivered, recorded_discarded, recorded_notified, covers_of, AreOffersAbove}
@@ -410,9 +410,14 @@ outside-sent sys state lost floor entries offers a e l k n s r f =
     let all = sent_messages sys (events state.history) e in
     let theirs = cover b (stamps_from f all) in
     let below = (covers_in sys state).discarded e (At (front_of floor p)) in
-    let whole = takes_checkpoints (policy_of sys.flow p) && tells_sent sys.flow p in
-    let stand = subst (λ g. StandForSent whole sys (events state.history) p g e (counted_on_edge e ms)) (told-base sys.flow p base r) (k.sent s e l refl) in
-    let poorer = sent_outside-covers whole sys (events state.history) e base (counted_on_edge e ms) s stand f b in
+    let none : takes_checkpoints (policy_of sys.flow p) ≡ false = elim (cases_Bool (takes_checkpoints (policy_of sys.flow p))) [
+      | inl takes ↦ absurd (n (takes-restoring (kind_of sys.flow p) (policy_of sys.flow p) (a.well_formed.flow.policies p there) takes))
+      | inr lacks ↦ lacks
+    ] in
+    let stand : StandForSent false sys (events state.history) p base e (counted_on_edge e ms) =
+    subst (λ g. StandForSent false sys (events state.history) p g e (counted_on_edge e ms)) (told-base sys.flow p base r)
+    (subst (λ c. StandForSent (c && tells_sent sys.flow p) sys (events state.history) p (base_of_sent sys.flow p base) e (counted_on_edge e ms)) none (k.sent s e l refl)) in
+    let poorer = sent_outside-covers sys (events state.history) e base (counted_on_edge e ms) s stand f b in
     subst (λ (xs : List Counted). IsPoorer (cover b (stamps_on_from e f xs)) theirs below) (sym (sent-is sys state lost floor entries offers p o))
     (subst (λ (xs : List Counted). IsPoorer (cover b (map (λ (m : Counted). m.at) xs)) theirs below) (sym (filter-split e f ms))
     (poorer-more _ theirs (cover b (stamps_from base all)) below

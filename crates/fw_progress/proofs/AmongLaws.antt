@@ -20,6 +20,8 @@ use Rattle.fw_flow.specs.Restoring.{can_resend}
 use Rattle.fw_flow.specs.WellFormed.{IsInDegree, IsPolicyAllowed, IsWellFormed}
 use Rattle.fw_flow.proofs.EdgeLaws.{in_edges-at}
 use Rattle.fw_model.specs.Covers.{stamp_of_notice}
+use Rattle.fw_model.specs.Alike.{StandForCauses}
+use Rattle.fw_model.proofs.AlikeLaws.{for-less, for-same}
 use Rattle.fw_model.specs.EventStamps.{causes_in, base_of_sent, tells_sent}
 use Rattle.fw_model.specs.Filtering.{AreFrontiers, kept_events}
 use Rattle.fw_model.specs.History.{delivered_messages, was_delivered_to, was_notified, AreEventsInDomain, IsLegal, sent_messages}
@@ -136,7 +138,8 @@ known-trace sys h these p base traces same told counts t o = record {
   };
   sent = λ d l r s.
       let all = causes_in (sent_messages sys h d) in
-      subst (λ c. IsThinnedIf false (cond c base (λ t. true)) all (stamps_where_sent traces d)) (sym told) (untold-if false all (stamps_where_sent traces d) (t.sent d l r s));
+      subst (λ c. StandForCauses sys.flow p false (cond c base (λ t. true)) all (stamps_where_sent traces d)) (sym told)
+      (for-same sys.flow p false (λ t. true) all (stamps_where_sent traces d) (untold-if false all (stamps_where_sent traces d) (t.sent d l r s)));
   counted = λ c. absurd (two_ways (counts_sent sys.flow p) c counts);
 }
 
@@ -176,8 +179,9 @@ input-trace sys h p base traces w legal l is t o =
         outside = subst (λ ss. HasOutside base ss (stamps_notified traces p)) (sym (no-notices sys h p legal (ap is_notified_kind is))) tt;
         inside = λ k. absurd (cc);
       };
-      sent = λ d i r s. subst (λ x. IsThinnedIf false (cond (not (can_resend x)) base (λ t. true)) (causes_in (sent_messages sys h d)) (stamps_where_sent traces d)) (sym none)
-          (record { among = t.sent d i r s; outside = o d i r; inside = λ k. absurd (cc) });
+      sent = λ d i r s. subst (λ x. StandForCauses sys.flow p false (cond (not (can_resend x)) base (λ t. true)) (causes_in (sent_messages sys h d)) (stamps_where_sent traces d)) (sym none)
+          (for-same sys.flow p false base (causes_in (sent_messages sys h d)) (stamps_where_sent traces d)
+          (record { among = t.sent d i r s; outside = o d i r; inside = λ k. absurd (cc) }));
       counted = λ c. absurd (two_ways (takes_checkpoints (policy_of sys.flow p)) c (ap takes_checkpoints none));
     }
 
@@ -200,8 +204,8 @@ none-trace whole sys p base traces delivered notified sent counted = record {
   sent = λ d l r s.
       let told = whole && tells_sent sys.flow p in
       let inside = base_of_sent sys.flow p base in
-      subst (IsThinnedIf told inside (causes_in (sent_messages sys [] d))) (sym (nothing-at [] traces.sent.items sent d))
-      (subst (λ ms. IsThinnedIf told inside (causes_in ms) []) (sym (carried-none sys.flow d)) (thinned-none told inside));
+      subst (StandForCauses sys.flow p told inside (causes_in (sent_messages sys [] d))) (sym (nothing-at [] traces.sent.items sent d))
+      (subst (λ ms. StandForCauses sys.flow p told inside (causes_in ms) []) (sym (carried-none sys.flow d)) (for-same sys.flow p told inside [] [] (thinned-none told inside)));
   counted = λ c. subst (IsSentTally base []) (sym (nothing-at no_tally traces.counted.items counted p)) (λ f w. refl);
 }
 
@@ -211,7 +215,7 @@ none-among sys p traces f h = record {
   delivered = λ d l r. each-weaker (Contains []) (Contains (map (λ (m : Message). m.at) (delivered_messages h d))) (delivered_on traces d) (λ s c. absurd (nothing-in s c)) (t.delivered d l r).among;
   notified = each-weaker (Contains []) (Contains (flat_map (stamp_of_notice p) h)) (stamps_notified traces p) (λ s c. absurd (nothing-in s c)) t.notified.among;
   sent = λ d l r s. each-weaker (Contains []) (Contains (causes_in (sent_messages sys h d))) (stamps_where_sent traces d) (λ u c. absurd (nothing-in u c))
-      (subst (λ ms. AllByRecursion (Contains (causes_in ms)) (stamps_where_sent traces d)) (carried-none sys.flow d) (t.sent d l r s).among);
+      (subst (λ ms. AllByRecursion (Contains (causes_in ms)) (stamps_where_sent traces d)) (carried-none sys.flow d) (for-less sys.flow p (base_of_sent sys.flow p (λ u. true)) (causes_in (sent_messages sys [] d)) (stamps_where_sent traces d) (t.sent d l r s)).among);
 }
   where
     t : IsTraceIf false sys [] p (λ s. true) traces
@@ -298,32 +302,32 @@ notified_more-outside q at old new c flow these p base t = record {
   ];
 }
 
--- one at which a node sent
-pub sent_more-among : (flow : Dataflow) (q : ℕ) (at : Stamp) (old new : Traces) → HasSentMore flow q at old new → (sys : System) (h : List Event) (p : ℕ) → sys.flow ≡ flow
-    → ((e : ℕ) → e < length sys.flow.edges → sender sys.flow e ≡ q → Contains (causes_in (sent_messages sys h e)) at) → IsTraceAmong sys h p old → IsTraceAmong sys h p new
-sent_more-among flow q at old new more sys h p e has t =
-    let c : HasSentMore sys.flow q at old new = subst (λ f. HasSentMore f q at old new) (sym e) more in
-    record {
-      delivered = λ d l r. subst (AllByRecursion (Contains (map (λ (m : Message). m.at) (delivered_messages h d)))) (sym (ap (λ xs. get_or xs d []) c.delivered)) (t.delivered d l r);
-      notified = subst (AllByRecursion (Contains (flat_map (stamp_of_notice p) h))) (sym (ap (λ xs. get_or xs p []) c.notified)) t.notified;
-      sent = λ d l r s. elim (cases_eq (sender sys.flow d) q) [
-        | inl i ↦ added-among at (causes_in (sent_messages sys h d)) (stamps_where_sent old d) (stamps_where_sent new d) (c.sent.here d l i) (has d l i) (t.sent d l r s)
-        | inr n ↦ subst (AllByRecursion (Contains (causes_in (sent_messages sys h d)))) (sym (c.sent.others d n)) (t.sent d l r s)
-      ];
-    }
+-- one at which something was sent on an edge
+pub sent_more-among : (e : ℕ) (at : Stamp) (old new : Traces) → HasSentMore e at old new → (sys : System) (h : List Event) (p : ℕ)
+    → (sender sys.flow e ≡ p → Contains (causes_in (sent_messages sys h e)) at) → IsTraceAmong sys h p old → IsTraceAmong sys h p new
+sent_more-among e at old new c sys h p has t = record {
+  delivered = λ d l r. subst (AllByRecursion (Contains (map (λ (m : Message). m.at) (delivered_messages h d)))) (sym (ap (λ xs. get_or xs d []) c.delivered)) (t.delivered d l r);
+  notified = subst (AllByRecursion (Contains (flat_map (stamp_of_notice p) h))) (sym (ap (λ xs. get_or xs p []) c.notified)) t.notified;
+  sent = λ d l r s. elim (cases_eq d e) [
+    | inl i ↦ subst (λ x. sender sys.flow x ≡ p → AllByRecursion (Contains (causes_in (sent_messages sys h x))) (stamps_where_sent old x)
+        → AllByRecursion (Contains (causes_in (sent_messages sys h x))) (stamps_where_sent new x)) (sym i)
+        (λ from a. added-among at (causes_in (sent_messages sys h e)) (stamps_where_sent old e) (stamps_where_sent new e) c.sent.here (has from) a) r (t.sent d l r s)
+    | inr n ↦ subst (AllByRecursion (Contains (causes_in (sent_messages sys h d)))) (sym (c.sent.others d n)) (t.sent d l r s)
+  ];
+}
 
-pub sent_more-outside : (flow : Dataflow) (q : ℕ) (at : Stamp) (old new : Traces) → HasSentMore flow q at old new → (of : Dataflow) (these : List Event) (p : ℕ) (base : Frontier)
+pub sent_more-outside : (e : ℕ) (at : Stamp) (old new : Traces) → HasSentMore e at old new → (of : Dataflow) (these : List Event) (p : ℕ) (base : Frontier)
     → HasTraceOutside of these p base old → HasTraceOutside of these p base new
-sent_more-outside flow q at old new c of these p base t = record {
+sent_more-outside e at old new c of these p base t = record {
   delivered = λ d l r. subst (HasOutside base (map (λ (z : Message). z.at) (delivered_messages these d))) (sym (ap (λ xs. get_or xs d []) c.delivered)) (t.delivered d l r);
   notified = subst (HasOutside base (flat_map (stamp_of_notice p) these)) (sym (ap (λ xs. get_or xs p []) c.notified)) t.notified;
 }
 
-pub sent_more-has : (flow : Dataflow) (q : ℕ) (at : Stamp) (old new : Traces) → HasSentMore flow q at old new → (e : ℕ) → e < length flow.edges → sender flow e ≡ q
+pub sent_more-has : (e : ℕ) (at : Stamp) (old new : Traces) → HasSentMore e at old new
     → (stamps : List Stamp) (base : Frontier) → HasOutside base stamps (stamps_where_sent old e) → HasOutside base (at ∷ stamps) (stamps_where_sent new e)
-sent_more-has flow q at old new c e l r stamps base o = (
-  (λ k. (added-has at (stamps_where_sent old e) (stamps_where_sent new e) (c.sent.here e l r)).0),
-  added-outside at base stamps (stamps_where_sent old e) (stamps_where_sent new e) (c.sent.here e l r) o,
+sent_more-has e at old new c stamps base o = (
+  (λ k. (added-has at (stamps_where_sent old e) (stamps_where_sent new e) c.sent.here).0),
+  added-outside at base stamps (stamps_where_sent old e) (stamps_where_sent new e) c.sent.here o,
 )
 
 -- an event inside the base needs not be there

@@ -28,12 +28,14 @@ use Rattle.fw_model.proofs.LocalityLaws.{events_at-kept, sent_by-same, delivers-
 use Rattle.fw_model.proofs.SequenceLaws.{one_inside}
 use Rattle.fw_progress.specs.declared.sent_tally.SentTally.{SentTally}
 use Rattle.fw_progress.specs.declared.traces.Traces.{Traces}
+use Rattle.fw_model.specs.Alike.{StandForCauses}
+use Rattle.fw_model.proofs.AlikeLaws.{for-wider, for-cut}
 use Rattle.fw_model.specs.EventStamps.{causes_in, base_of_sent, tells_sent}
 use Rattle.fw_progress.specs.SentTally.{IsSentTally, ComeFromDomain, IsTallySettledTo, IsCountedInAll, IsTallyCutTo}
 use Rattle.fw_progress.specs.Trace.{delivered_on, stamps_notified, stamps_where_sent, counted_of, IsTraceIf, IsTraceWithin, KeepsLists, KeepsOthers, AreSettledTo, AreThinnedAt, AreCutTo, HaveChanged}
 use Rattle.fw_progress.specs.Traces.{AreOf, IsSettledTo, IsThinnedBy, StandsInside}
 use Rattle.fw_progress.proofs.SentTallyLaws.{tally-settle}
-use Rattle.fw_progress.proofs.TraceLaws.{thinned-settle, settled-if, inside-if, sent_settled-if, sent_inside-if}
+use Rattle.fw_progress.proofs.TraceLaws.{thinned-settle, settled-if, inside-if, sent_settled-if, sent_inside-if, sent-base, sent-within}
 
 -- ---- of a node's events alone
 
@@ -70,7 +72,7 @@ pub same-trace : (whole : Bool) (sys : System) (h k : List Event) (p : ℕ) (bas
 same-trace whole sys h k p base traces e t = record {
   delivered = λ d l r. subst (λ ms. IsThinnedIf whole base (map (λ (m : Message). m.at) ms) (delivered_on traces d)) (same d r) (t.delivered d l r);
   notified = subst (λ ss. IsThinnedIf whole base ss (stamps_notified traces p)) (sym (notices-at sys.flow h p) ∙ ap (flat_map (stamp_of_notice p)) (sym e) ∙ notices-at sys.flow k p) t.notified;
-  sent = λ d l r n. subst (λ ms. IsThinnedIf (whole && tells_sent sys.flow p) (base_of_sent sys.flow p base) (causes_in ms) (stamps_where_sent traces d))
+  sent = λ d l r n. subst (λ ms. StandForCauses sys.flow p (whole && tells_sent sys.flow p) (base_of_sent sys.flow p base) (causes_in ms) (stamps_where_sent traces d))
       (sent-own sys h k d (subst (λ q. events_at sys.flow q k ≡ events_at sys.flow q h) (sym r) e)) (t.sent d l r n);
   counted = λ c. subst (λ vs. IsSentTally base (sent_by sys p vs) (counted_of traces p)) (sym e) (t.counted c);
 }
@@ -140,7 +142,7 @@ changed-others : (flow : Dataflow) (p : ℕ) (R : List Stamp → List Stamp → 
 changed-others flow p R T old new c whole sys h e q n base t = record {
   delivered = λ d l r. subst (IsThinnedIf whole base (map (λ (m : Message). m.at) (delivered_messages h d))) (sym (c.delivered.others d (λ i. n (sym r ∙ ap (λ f. receiver f d) e ∙ i)))) (t.delivered d l r);
   notified = subst (IsThinnedIf whole base (flat_map (stamp_of_notice q) h)) (sym (c.notified.others q n)) t.notified;
-  sent = λ d l r k. subst (IsThinnedIf (whole && tells_sent sys.flow q) (base_of_sent sys.flow q base) (causes_in (sent_messages sys h d)))
+  sent = λ d l r k. subst (StandForCauses sys.flow q (whole && tells_sent sys.flow q) (base_of_sent sys.flow q base) (causes_in (sent_messages sys h d)))
       (sym (c.sent.others d (λ i. n (sym r ∙ ap (λ f. sender f d) e ∙ i)))) (t.sent d l r k);
   counted = λ k. subst (IsSentTally base (sent_by sys q (events_at sys.flow q h))) (sym (c.counted.others q n)) (t.counted k);
 }
@@ -162,8 +164,10 @@ settled-traces flow p f old new change = record {
           delivered = λ d l r. settled-if whole b f (delivered_on old d) (delivered_on new d) (c.delivered.here d l r) w.base (map (λ (m : Message). m.at) (delivered_messages h d))
               (subst (λ q. AreEventsInDomain sys.flow h q → AreOf (bounds_of sys.flow q) (map (λ (m : Message). m.at) (delivered_messages h d))) r (delivered-domain sys h d) a) w.within (t.delivered d l r);
           notified = settled-if whole b f (stamps_notified old p) (stamps_notified new p) c.notified.here w.base (flat_map (stamp_of_notice p) h) (notices-domain sys h p a) w.within t.notified;
-          sent = λ d l r k. sent_settled-if whole sys.flow p b f (stamps_where_sent old d) (stamps_where_sent new d) (c.sent.here d l r) w.base (causes_in (sent_messages sys h d))
-              (edge-domain sys h p d r a) w.within (t.sent d l r k);
+          sent = λ d l r k. for-wider sys.flow p (whole && tells_sent sys.flow p) (base_of_sent sys.flow p w.base) (base_of_sent sys.flow p (node_frontier sys.flow p f))
+              (causes_in (sent_messages sys h d)) (stamps_where_sent old d) (stamps_where_sent new d) (λ j. sent-within sys.flow p w.base (node_frontier sys.flow p f) w.within)
+              (edge-domain sys h p d r a)
+              (λ all of. sent_settled-if whole sys.flow p b f (stamps_where_sent old d) (stamps_where_sent new d) (c.sent.here d l r) w.base all of w.within) (t.sent d l r k);
           counted = λ k. c.counted.here b w.base (sent_by sys p (events_at sys.flow p h)) (sent-domain sys h p a) w.within (t.counted k);
         }
 
@@ -295,9 +299,12 @@ cut-traces flow p f old new well change = record {
               (subst (λ q. AreEventsInDomain sys.flow h q → AreOf (bounds_of sys.flow q) all) r (delivered-domain sys h d) a) w (t.delivered d l r));
           notified = subst (λ ss. IsThinnedIf whole base ss (stamps_notified new p)) (sym (notices-kept sys.flow keep h p ∙ ap (λ g. filter g (flat_map (stamp_of_notice p) h)) is))
               (inside-if whole b f (stamps_notified old p) (stamps_notified new p) c.notified.here base (flat_map (stamp_of_notice p) h) (notices-domain sys h p a) w t.notified);
-          sent = λ d l r k. subst (λ ss. IsThinnedIf (whole && tells_sent sys.flow p) (base_of_sent sys.flow p base) ss (stamps_where_sent new d))
+          sent = λ d l r k. subst (λ ss. StandForCauses sys.flow p (whole && tells_sent sys.flow p) (base_of_sent sys.flow p base) ss (stamps_where_sent new d))
               (sym (sent-kept sys h keep well epochs legal fr p (node_frontier sys.flow p f) is d r))
-              (sent_inside-if whole sys.flow p b f (stamps_where_sent old d) (stamps_where_sent new d) (c.sent.here d l r) base (causes_in (sent_messages sys h d)) (edge-domain sys h p d r a) w (t.sent d l r k));
+              (for-cut sys.flow p (whole && tells_sent sys.flow p) (base_of_sent sys.flow p base) (base_of_sent sys.flow p base) (node_frontier sys.flow p f)
+              (causes_in (sent_messages sys h d)) (stamps_where_sent old d) (stamps_where_sent new d) (λ j s i. i) (sent-base whole sys.flow p base (node_frontier sys.flow p f) w)
+              (edge-domain sys h p d r a)
+              (λ all of. sent_inside-if whole sys.flow p b f (stamps_where_sent old d) (stamps_where_sent new d) (c.sent.here d l r) base all of w) (t.sent d l r k));
           counted = λ k. subst (λ ms. IsSentTally base ms (counted_of new p)) (sym sent)
               (c.counted.here b base (sent_by sys p (events_at sys.flow p h)) (sent-domain sys h p a) w (t.counted k));
         }

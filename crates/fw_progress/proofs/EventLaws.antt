@@ -1,19 +1,23 @@
 -- What an event changes in the counts.
-use Rattle.std.proofs.Common.{◌↔◌, ◌≡◌, ℕ, zero, suc, ◌+◌, ◌*◌, ◌<◌, Bool, true, false, ◌||◌, ◌==◌, cond, List, [], ◌∷◌, ◌++◌, length, get_or, set, take, refl, sym, ap, subst, ◌∙◌, inl, inr, arith}
+use Rattle.std.proofs.Common.{◌↔◌, ◌≡◌, ℕ, zero, suc, ◌+◌, ◌*◌, ◌<◌, Bool, true, false, ◌||◌, ◌==◌, cond, List, [], ◌∷◌, ◌++◌, Option, length, get_or, map, set, take, refl, sym, ap, subst, ◌∙◌, inl, inr, arith}
+use Rattle.std.specs.Prelude.{filter}
 use Rattle.std.specs.List.{AllByRecursion}
 use Rattle.std.proofs.lemmas.Bool.{cases_eq, eq-eqb, eqb-true, false_from_ne_true, both_ways, or_right}
 use Rattle.std.proofs.lemmas.List.{get_or-set_same, get_or-set_other, length-set, take_more}
 use Rattle.fw_lemmas.proofs.Each.{each-at}
 use Rattle.fw_lemmas.proofs.Lists.{read_at}
+use Rattle.fw_bag.specs.declared.rec.Rec.{Rec}
 use Rattle.fw_time.specs.Stamp.{Stamp, same, in_domain}
 use Rattle.fw_time.specs.declared.stamp.Bounds.{Bounds}
 use Rattle.fw_flow.specs.Counting.{how_many}
+use Rattle.fw_flow.specs.declared.key_part.KeyPart.{KeyPart}
 use Rattle.fw_flow.specs.declared.node.Edge.{Edge}
 use Rattle.fw_flow.specs.Dataflow.{Dataflow, sender, receiver, bounds_of, edges_from, out_edges}
+use Rattle.fw_flow.specs.KeyParts.{is_of_part_if, part_of}
 use Rattle.fw_flow.specs.SentTable.{EpochsAscend}
 use Rattle.fw_flow.proofs.OutEdgeLaws.{out_edges-from}
 use Rattle.fw_progress.specs.Counts.{is_in}
-use Rattle.fw_progress.specs.Progress.{ChangesAt, ArePendingMore, IsSentMore}
+use Rattle.fw_progress.specs.Progress.{ChangesAt, ArePendingMore, IsSentMore, stamps_of_recs, stamps_of_part, stamps_on}
 use Rattle.fw_progress.specs.Tally.{times_in, IsTallyOf, HasEachMore}
 
 -- one place changed
@@ -36,13 +40,13 @@ sent_kept old p i y epoch count b e l is test none = changed_at [] (IsSentMore e
 abbrev pub how_often : List ℕ → ℕ → ℕ
 how_often edges e = how_many (λ d. d == e) edges
 
--- the stamps were added once for each of the edges so far
-pub record IsSending (stamps : List Stamp) (edges : List ℕ) (old new : List (List (Stamp × ℕ))) : Type 0 where
+-- the stamps of each of the edges so far were added once on it
+pub record IsSending (stamps : ℕ → List Stamp) (edges : List ℕ) (old new : List (List (Stamp × ℕ))) : Type 0 where
   pub one_each : length new ≡ length old
-  pub times : (e : ℕ) (t : Stamp) → times_in t (get_or new e []) ≡ times_in t (get_or old e []) + how_often edges e * how_many (same t) stamps
-  pub domain : (b : Bounds) (e : ℕ) → IsTallyOf b (get_or old e []) → (is_in edges e ≡ true → AllByRecursion (λ s. in_domain b s ≡ true) stamps) → IsTallyOf b (get_or new e [])
+  pub times : (e : ℕ) (t : Stamp) → times_in t (get_or new e []) ≡ times_in t (get_or old e []) + how_often edges e * how_many (same t) (stamps e)
+  pub domain : (b : Bounds) (e : ℕ) → IsTallyOf b (get_or old e []) → (is_in edges e ≡ true → AllByRecursion (λ s. in_domain b s ≡ true) (stamps e)) → IsTallyOf b (get_or new e [])
 
-pub sending_none : (stamps : List Stamp) (old : List (List (Stamp × ℕ))) → IsSending stamps [] old old
+pub sending_none : (stamps : ℕ → List Stamp) (old : List (List (Stamp × ℕ))) → IsSending stamps [] old old
 sending_none stamps old = record { one_each = refl; times = λ e t. omega arith; domain = λ b e a d. a }
 
 often-last : (xs : List ℕ) (x e : ℕ) → how_often (xs ++ x ∷ []) e ≡ how_often xs e + cond (x == e) 1 0
@@ -70,8 +74,8 @@ is-last : (xs : List ℕ) (x : ℕ) → is_in (xs ++ x ∷ []) x ≡ true
 is-last [] x = ap (λ b. b || false) (eq-eqb x x refl)
 is-last (y ∷ ys) x = or_right (y == x) (is_in (ys ++ x ∷ []) x) (is-last ys x)
 
-pub sending_more : (stamps : List Stamp) (edges : List ℕ) (i x : ℕ) (old mid new : List (List (Stamp × ℕ))) → i < length edges → x ≡ get_or edges i x
-    → IsSending stamps (take i edges) old mid → ChangesAt x [] (HasEachMore stamps) mid new → IsSending stamps (take (i + 1) edges) old new
+pub sending_more : (stamps : ℕ → List Stamp) (edges : List ℕ) (i x : ℕ) (old mid new : List (List (Stamp × ℕ))) → i < length edges → x ≡ get_or edges i x
+    → IsSending stamps (take i edges) old mid → ChangesAt x [] (HasEachMore (stamps x)) mid new → IsSending stamps (take (i + 1) edges) old new
 sending_more stamps edges i x old mid new l is a c =
     let so_far = take i edges in
     let more : take (i + 1) edges ≡ so_far ++ x ∷ [] = take_more edges i x l ∙ ap (λ y. so_far ++ y ∷ []) (sym is) in
@@ -80,15 +84,16 @@ sending_more stamps edges i x old mid new l is a c =
       times = λ e t. elim (cases_eq e x) [
         | inl k ↦
             let often = often-last so_far x e ∙ ap (λ b. how_often so_far e + cond b 1 0) (eq-eqb x e (sym k)) in
-            let now : times_in t (get_or new e []) ≡ times_in t (get_or mid e []) + how_many (same t) stamps = subst (λ n. times_in t (get_or new n []) ≡ times_in t (get_or mid n []) + how_many (same t) stamps) (sym k) (c.here.times t) in
-            now ∙ step (times_in t (get_or mid e [])) (times_in t (get_or old e [])) (how_often so_far e) (how_often (so_far ++ x ∷ []) e) (how_many (same t) stamps) (a.times e t) often
+            let now : times_in t (get_or new e []) ≡ times_in t (get_or mid e []) + how_many (same t) (stamps e) = subst (λ n. times_in t (get_or new n []) ≡ times_in t (get_or mid n []) + how_many (same t) (stamps n)) (sym k) (c.here.times t) in
+            now ∙ step (times_in t (get_or mid e [])) (times_in t (get_or old e [])) (how_often so_far e) (how_often (so_far ++ x ∷ []) e) (how_many (same t) (stamps e)) (a.times e t) often
         | inr n ↦
             let often = often-last so_far x e ∙ ap (λ b. how_often so_far e + cond b 1 0) (false_from_ne_true (x == e) (λ k. n (sym (eqb-true x e k)))) in
-            ap (times_in t) (c.others e n) ∙ a.times e t ∙ still (times_in t (get_or old e [])) (how_often so_far e) (how_often (so_far ++ x ∷ []) e) (how_many (same t) stamps) often
+            ap (times_in t) (c.others e n) ∙ a.times e t ∙ still (times_in t (get_or old e [])) (how_often so_far e) (how_often (so_far ++ x ∷ []) e) (how_many (same t) (stamps e)) often
       ];
       domain = λ b e o d. elim (cases_eq e x) [
         | inl k ↦ subst (λ n. IsTallyOf b (get_or new n [])) (sym k)
-            (c.here.domain b (subst (λ n. IsTallyOf b (get_or mid n [])) k (a.domain b e o (λ j. d (in-last so_far x e j)))) (d (subst (λ n. is_in (so_far ++ x ∷ []) n ≡ true) (sym k) (is-last so_far x))))
+            (c.here.domain b (subst (λ n. IsTallyOf b (get_or mid n [])) k (a.domain b e o (λ j. d (in-last so_far x e j))))
+            (subst (λ n. AllByRecursion (λ s. in_domain b s ≡ true) (stamps n)) k (d (subst (λ n. is_in (so_far ++ x ∷ []) n ≡ true) (sym k) (is-last so_far x)))))
         | inr n ↦ subst (IsTallyOf b) (sym (c.others e n)) (a.domain b e o (λ j. d (in-last so_far x e j)))
       ];
     })
@@ -154,12 +159,24 @@ often-in (x ∷ xs) e k z = by (x == e) k z (often-in xs e)
     by true j y f = absurd (omega (arith, y))
     by false j y f = f j y
 
-pub all_sent : (flow : Dataflow) (p : ℕ) (stamps : List Stamp) (edges : List ℕ) (old new : List (List (Stamp × ℕ))) → edges ≡ out_edges flow p → IsSending stamps edges old new → ArePendingMore flow p stamps old new
-all_sent flow p stamps edges old new is a = record {
+-- what holds of the stamps of all recs holds of those that an edge carries
+stamps-each : (P : Stamp → Type 0) (part : Option KeyPart) (sent : List (Stamp × Rec)) → AllByRecursion P (stamps_of_recs sent) → AllByRecursion P (stamps_of_part part sent)
+stamps-each P part [] a = tt
+stamps-each P part (x ∷ xs) a = by (is_of_part_if part x.1.key) (stamps-each P part xs a.1)
+  where
+    by : (b : Bool) → AllByRecursion P (stamps_of_part part xs)
+        → AllByRecursion P (map (λ (s : Stamp × Rec). s.0) (cond b (x ∷ filter (λ (s : Stamp × Rec). is_of_part_if part s.1.key) xs) (filter (λ (s : Stamp × Rec). is_of_part_if part s.1.key) xs)))
+    by true h = (a.0, h)
+    by false h = h
+
+pub all_sent : (flow : Dataflow) (p : ℕ) (sent : List (Stamp × Rec)) (edges : List ℕ) (old new : List (List (Stamp × ℕ))) → edges ≡ out_edges flow p
+    → IsSending (λ e. stamps_on flow e sent) edges old new → ArePendingMore flow p sent old new
+all_sent flow p sent edges old new is a = record {
   one_each = a.one_each;
-  times = λ e l t. a.times e t ∙ one (sender flow e == p) (times_in t (get_or old e [])) (how_often edges e) (how_many (same t) stamps) (ap (λ es. how_often es e) is ∙ once flow p e l);
-  domain = λ can o e l. a.domain (bounds_of flow (receiver flow e)) e (o e l) (λ k. can e l (eqb-true (sender flow e) p (from (sender flow e == p)
-      (ap (λ es. how_often es e) is ∙ once flow p e l) (often-in edges e k))));
+  times = λ e l t. a.times e t ∙ one (sender flow e == p) (times_in t (get_or old e [])) (how_often edges e) (how_many (same t) (stamps_on flow e sent)) (ap (λ es. how_often es e) is ∙ once flow p e l);
+  domain = λ can o e l. a.domain (bounds_of flow (receiver flow e)) e (o e l) (λ k.
+      stamps-each (λ s. in_domain (bounds_of flow (receiver flow e)) s ≡ true) (part_of flow (receiver flow e)) sent
+      (can e l (eqb-true (sender flow e) p (from (sender flow e == p) (ap (λ es. how_often es e) is ∙ once flow p e l) (often-in edges e k)))));
 }
   where
     one : (b : Bool) (o k h : ℕ) → k ≡ cond b 1 0 → o + k * h ≡ o + cond b h 0

@@ -1,5 +1,6 @@
 -- What stands for a history stands for it as it goes on by an event.
-use Rattle.std.proofs.Common.{◌≡◌, ◌≢◌, ℕ, zero, suc, ◌+◌, ◌-◌, ◌<◌, ◌≤◌, Bool, true, false, not, ◌&&◌, ◌||◌, ◌==◌, nat_lt, cond, List, [], ◌∷◌, ◌++◌, length, get_or, map, refl, sym, ap, subst, ◌∙◌, inl, inr, arith}
+use Rattle.std.proofs.Common.{◌≡◌, ◌≢◌, ℕ, zero, suc, ◌+◌, ◌-◌, ◌<◌, ◌≤◌, Bool, true, false, not, ◌&&◌, ◌||◌, ◌==◌, nat_lt, cond, List, [], ◌∷◌, ◌++◌, Option, length, get_or, map, refl, sym, ap, subst, ◌∙◌, inl, inr, arith}
+use Rattle.std.specs.Prelude.{filter}
 use Rattle.std.specs.List.{AllByRecursion}
 use Rattle.std.proofs.lemmas.Bool.{and_parts, and_from, cases_Bool, cases_eq, eq-eqb, eqb-true, false_from_ne_true, both_ways, or_cases, or_left, or_right}
 use Rattle.std.proofs.lemmas.List.{length-map}
@@ -9,13 +10,16 @@ use Rattle.std.proofs.lemmas.List.Sorted.{IsNonDecreasingBy-push}
 use Rattle.fw_lemmas.proofs.Each.{each-weaker, each-at, each-append}
 use Rattle.fw_time.specs.Stamp.{Stamp, leq, same, in_domain}
 use Rattle.fw_time.proofs.StampLaws.{same-is, same-refl}
+use Rattle.fw_bag.specs.declared.rec.Rec.{Rec}
 use Rattle.fw_flow.specs.Counting.{how_many}
 use Rattle.fw_flow.specs.declared.event.Event.{Event}
 use Rattle.fw_flow.specs.declared.event.Event.TheVariants.{Inject, Deliver, Notify}
 use Rattle.fw_flow.specs.declared.event.Message.{Message}
+use Rattle.fw_flow.specs.declared.key_part.KeyPart.{KeyPart}
 use Rattle.fw_flow.specs.Dataflow.{System, Dataflow, kind_of, sender, receiver, greatest_number, is_notified_kind, is_sequence_kind, HasEpochs}
 use Rattle.fw_flow.specs.NodeFunction.{event_node, sends}
 use Rattle.fw_flow.specs.Projection.{events_at, IsSentTable}
+use Rattle.fw_flow.specs.KeyParts.{is_of_part_if, is_carried, part_of}
 use Rattle.fw_flow.specs.SentTable.{EpochsAscend}
 use Rattle.fw_flow.specs.WellFormed.{IsWellFormed}
 use Rattle.fw_model.specs.Carried.{carried}
@@ -25,7 +29,7 @@ use Rattle.fw_frontier.specs.Front.{Front}
 use Rattle.fw_model.specs.Machine.{family_of}
 use Rattle.fw_model.specs.Order.{notified_stamps, AreDescending}
 use Rattle.fw_model.specs.Sending.{SendsByCount}
-use Rattle.fw_model.proofs.CarriedLaws.{carried-all, sent-more}
+use Rattle.fw_model.proofs.CarriedLaws.{sent-more}
 use Rattle.fw_model.proofs.ClosedLaws.{settled-outside}
 use Rattle.fw_model.proofs.CompleteLaws.{admissible-stays}
 use Rattle.fw_model.proofs.KindSorts.{is_sequence}
@@ -42,8 +46,8 @@ use Rattle.fw_model.proofs.TableLaws.{table-follows}
 use Rattle.fw_model.proofs.OncePerNumberLaws.{any_at}
 use Rattle.fw_progress.specs.declared.counts.Counts.{Counts}
 use Rattle.fw_progress.specs.Counts.{pending_of, owed_of, injected_in, sent_of, is_in}
-use Rattle.fw_progress.specs.History.{count_at, IsCountOf, AreKeptAdmissible, stamps_sent}
-use Rattle.fw_progress.specs.Progress.{ArePendingMore, DeliversOne, IsNotified, IsInjected}
+use Rattle.fw_progress.specs.History.{count_at, IsCountOf, AreKeptAdmissible, AreSameRecs, recs_sent}
+use Rattle.fw_progress.specs.Progress.{stamps_of_part, stamps_on, ArePendingMore, DeliversOne, IsNotified, IsInjected}
 use Rattle.fw_progress.specs.Growths.{IsEnlisted}
 use Rattle.fw_progress.specs.Tally.{times_in, has_one}
 use Rattle.fw_progress.proofs.HistoryLaws.{count-some}
@@ -79,27 +83,79 @@ event-balance sys h v l e t =
     let came = count-append t (message_on e v) (delivered_messages h e) in
     omega arith
 
+-- the stamps of what an event sends that an edge carries are those of the messages that it carries
+pub stamps-carried : (flow : Dataflow) (e : ℕ) (ms : List Message) → stamps_on flow e (map (λ (m : Message). (m.at, m.rec)) ms) ≡ map (λ (m : Message). m.at) (carried flow e ms)
+unfolding carried is_carried
+stamps-carried flow e [] = refl
+stamps-carried flow e (m ∷ ms) = by (is_of_part_if part m.rec.key) (stamps-carried flow e ms)
+  where
+    part : Option KeyPart
+    part = part_of flow (receiver flow e)
+
+    sent : List (Stamp × Rec)
+    sent = map (λ (n : Message). (n.at, n.rec)) ms
+
+    by : (b : Bool) → stamps_of_part part sent ≡ map (λ (n : Message). n.at) (filter (λ (n : Message). is_of_part_if part n.rec.key) ms)
+        → map (λ (s : Stamp × Rec). s.0) (cond b ((m.at, m.rec) ∷ filter (λ (s : Stamp × Rec). is_of_part_if part s.1.key) sent) (filter (λ (s : Stamp × Rec). is_of_part_if part s.1.key) sent))
+        ≡ map (λ (n : Message). n.at) (cond b (m ∷ filter (λ (n : Message). is_of_part_if part n.rec.key) ms) (filter (λ (n : Message). is_of_part_if part n.rec.key) ms))
+    by true h = ap (λ ts. m.at ∷ ts) h
+    by false h = h
+
+stamps-many : (test : Stamp → Bool) (part : Option KeyPart) (xs : List (Stamp × Rec))
+    → how_many test (stamps_of_part part xs) ≡ how_many (λ (s : Stamp × Rec). is_of_part_if part s.1.key && test s.0) xs
+stamps-many test part [] = refl
+stamps-many test part (x ∷ xs) = by (is_of_part_if part x.1.key) (stamps-many test part xs)
+  where
+    kept : List (Stamp × Rec)
+    kept = filter (λ (s : Stamp × Rec). is_of_part_if part s.1.key) xs
+
+    all : ℕ
+    all = how_many (λ (s : Stamp × Rec). is_of_part_if part s.1.key && test s.0) xs
+
+    by : (b : Bool) → how_many test (stamps_of_part part xs) ≡ all → how_many test (map (λ (s : Stamp × Rec). s.0) (cond b (x ∷ kept) kept)) ≡ cond (b && test x.0) (all + 1) all
+    by true h = ap (λ n. cond (test x.0) (n + 1) n) h
+    by false h = h
+
+-- where the same recs are sent, as many are carried at each stamp
+pub same-many : (xs ys : List (Stamp × Rec)) → AreSameRecs xs ys → (test : Stamp → Bool) (part : Option KeyPart)
+    → how_many test (stamps_of_part part xs) ≡ how_many test (stamps_of_part part ys)
+same-many xs ys h test part =
+    stamps-many test part xs ∙ h (λ (s : Stamp × Rec). is_of_part_if part s.1.key && test s.0) ∙ sym (stamps-many test part ys)
+
+length-many : {A : Type 0} (xs : List A) → length xs ≡ how_many (λ (x : A). true) xs
+length-many [] = refl
+length-many (x ∷ xs) = let h = length-many xs in omega arith
+
+-- and as many in all
+pub same-length : (xs ys : List (Stamp × Rec)) → AreSameRecs xs ys → length xs ≡ length ys
+same-length xs ys h = length-many xs ∙ h (λ (s : Stamp × Rec). true) ∙ sym (length-many ys)
+
+pub same-carried : (xs ys : List (Stamp × Rec)) → AreSameRecs xs ys → (part : Option KeyPart) → length (stamps_of_part part xs) ≡ length (stamps_of_part part ys)
+same-carried xs ys h part = length-many (stamps_of_part part xs) ∙ same-many xs ys h (λ (s : Stamp). true) part ∙ sym (length-many (stamps_of_part part ys))
+
 many-map : (t : Stamp) (ms : List Message) → how_many (same t) (map (λ (m : Message). m.at) ms) ≡ count_at t ms
 many-map t [] = refl
 many-map t (m ∷ ms) = ap (λ n. cond (same t m.at) (n + 1) n) (many-map t ms)
 
--- what an event sends on an edge, by the stamps at which its node sends
-sent_on-count : (sys : System) (h : List Event) (v : Event) (e : ℕ) (t : Stamp) → count_at t (sent_on sys h e v) ≡ cond (sender sys.flow e == event_node sys.flow v) (how_many (same t) (stamps_sent sys h v)) 0
+-- what an event sends on an edge, by the stamps of what this carries
+sent_on-count : (sys : System) (h : List Event) (v : Event) (e : ℕ) (t : Stamp) → count_at t (sent_on sys h e v) ≡ cond (sender sys.flow e == event_node sys.flow v) (how_many (same t) (stamps_on sys.flow e (recs_sent sys h v))) 0
 sent_on-count sys h v e t =
     let p = event_node sys.flow v in
     let q = sender sys.flow e in
     let S : ℕ → List Message = λ n. sends sys n (events_at sys.flow n h) v in
+    let there = how_many (same t) (stamps_on sys.flow e (recs_sent sys h v)) in
     elim (cases_eq p q) [
       | inl k ↦
-          ap (λ b. count_at t (cond b (carried sys.flow e (S q)) [])) (eq-eqb p q k) ∙ ap (count_at t) (carried-all sys.flow e (S q)) ∙ ap (λ n. count_at t (S n)) (sym k) ∙ sym (many-map t (S p))
-          ∙ sym (ap (λ b. cond b (how_many (same t) (stamps_sent sys h v)) 0) (eq-eqb q p (sym k)))
+          ap (λ b. count_at t (cond b (carried sys.flow e (S q)) [])) (eq-eqb p q k) ∙ ap (λ n. count_at t (carried sys.flow e (S n))) (sym k)
+          ∙ sym (many-map t (carried sys.flow e (S p))) ∙ ap (how_many (same t)) (sym (stamps-carried sys.flow e (S p)))
+          ∙ sym (ap (λ b. cond b there 0) (eq-eqb q p (sym k)))
       | inr n ↦
           ap (λ b. count_at t (cond b (carried sys.flow e (S q)) [])) (false_from_ne_true (p == q) (λ k. n (eqb-true p q k)))
-          ∙ sym (ap (λ b. cond b (how_many (same t) (stamps_sent sys h v)) 0) (false_from_ne_true (q == p) (λ k. n (sym (eqb-true q p k)))))
+          ∙ sym (ap (λ b. cond b there 0) (false_from_ne_true (q == p) (λ k. n (sym (eqb-true q p k)))))
     ]
 
 -- what is pending, where what the event delivered was taken and what it sent was added
-pending-event : (sys : System) (h : List Event) (v : Event) (sent : List Stamp) (old between new : List (List (Stamp × ℕ))) → IsLegal sys (v ∷ h) → stamps_sent sys h v ≡ sent
+pending-event : (sys : System) (h : List Event) (v : Event) (sent : List (Stamp × Rec)) (old between new : List (List (Stamp × ℕ))) → IsLegal sys (v ∷ h) → AreSameRecs (recs_sent sys h v) sent
     → ((e : ℕ) → e < length sys.flow.edges → (t : Stamp) → times_in t (get_or old e []) ≡ count_at t (pending_messages sys h e))
     → ((e : ℕ) → e < length sys.flow.edges → (t : Stamp) → times_in t (get_or between e []) + count_at t (message_on e v) ≡ times_in t (get_or old e []))
     → ArePendingMore sys.flow (event_node sys.flow v) sent between new
@@ -107,7 +163,7 @@ pending-event : (sys : System) (h : List Event) (v : Event) (sent : List Stamp) 
 pending-event sys h v sent old between new l is o taken s e m t =
     let a = s.times e m t in
     let b = event-balance sys h v l e t in
-    let c = sent_on-count sys h v e t ∙ ap (λ ts. cond (sender sys.flow e == event_node sys.flow v) (how_many (same t) ts) 0) is in
+    let c = sent_on-count sys h v e t ∙ ap (λ n. cond (sender sys.flow e == event_node sys.flow v) n 0) (same-many (recs_sent sys h v) sent is (same t) (part_of sys.flow (receiver sys.flow e))) in
     let d = taken e m t in
     let f = o e m t in
     omega arith
@@ -131,7 +187,7 @@ owed-more true d n e = ap not (sym (e refl))
 owed-more false d n e = refl
 
 -- what a node is owed after a delivery
-owed-delivered : (sys : System) (h : List Event) (e : ℕ) (m : Message) (sent : List Stamp) (old new : Counts) → IsWellFormed sys.flow → HasEpochs sys → IsLegal sys (Deliver e m ∷ h)
+owed-delivered : (sys : System) (h : List Event) (e : ℕ) (m : Message) (sent : List (Stamp × Rec)) (old new : Counts) → IsWellFormed sys.flow → HasEpochs sys → IsLegal sys (Deliver e m ∷ h)
     → IsCountOf sys h old → DeliversOne sys.flow e m.at sent old new → (p : ℕ) → p < length sys.flow.nodes → (t : Stamp)
     → has_one t (owed_of new p) ≡ is_owed_notice sys (Deliver e m ∷ h) p t
 owed-delivered sys h e m sent old new w b l c d p there t =
@@ -167,7 +223,7 @@ owed-delivered sys h e m sent old new w b l c d p there t =
     ]
 
 -- one less is pending where a message was taken
-taken-one : (sys : System) (h : List Event) (e : ℕ) (m : Message) (sent : List Stamp) (old new : Counts) → IsLegal sys (Deliver e m ∷ h) → IsCountOf sys h old
+taken-one : (sys : System) (h : List Event) (e : ℕ) (m : Message) (sent : List (Stamp × Rec)) (old new : Counts) → IsLegal sys (Deliver e m ∷ h) → IsCountOf sys h old
     → (d : DeliversOne sys.flow e m.at sent old new) → (x : ℕ) → x < length sys.flow.edges → (t : Stamp)
     → times_in t (get_or d.between x []) + count_at t (message_on x (Deliver e m)) ≡ times_in t (pending_of old x)
 taken-one sys h e m sent old new l c d x there t = elim (cases_eq x e) [
@@ -209,8 +265,8 @@ taken-one sys h e m sent old new l c d x there t = elim (cases_eq x e) [
     step false true n o c e x y f = absurd (cc)
     step false false n o c e x y f = omega (arith, x, y)
 
-pub delivered-counts : (sys : System) (h : List Event) (e : ℕ) (m : Message) (sent : List Stamp) (old new : Counts) → IsWellFormed sys.flow → HasEpochs sys → IsLegal sys (Deliver e m ∷ h)
-    → stamps_sent sys h (Deliver e m) ≡ sent → IsCountOf sys h old → DeliversOne sys.flow e m.at sent old new → IsCountOf sys (Deliver e m ∷ h) new
+pub delivered-counts : (sys : System) (h : List Event) (e : ℕ) (m : Message) (sent : List (Stamp × Rec)) (old new : Counts) → IsWellFormed sys.flow → HasEpochs sys → IsLegal sys (Deliver e m ∷ h)
+    → AreSameRecs (recs_sent sys h (Deliver e m)) sent → IsCountOf sys h old → DeliversOne sys.flow e m.at sent old new → IsCountOf sys (Deliver e m ∷ h) new
 delivered-counts sys h e m sent old new w b l is c d = record {
   pending = pending-event sys h (Deliver e m) sent old.pending.items d.between new.pending.items l is c.pending (taken-one sys h e m sent old new l c d) d.sends;
   owed = owed-delivered sys h e m sent old new w b l c d;
@@ -223,8 +279,8 @@ delivered-counts sys h e m sent old new w b l is c d = record {
 
 -- ---- injections
 
-pub injected-counts : (sys : System) (h : List Event) (s x : ℕ) (sent : List Stamp) (old new : Counts) → HasEpochs sys → IsLegal sys (Inject s x ∷ h)
-    → stamps_sent sys h (Inject s x) ≡ sent → IsCountOf sys h old → IsInjected sys.flow s sent old new → IsCountOf sys (Inject s x ∷ h) new
+pub injected-counts : (sys : System) (h : List Event) (s x : ℕ) (sent : List (Stamp × Rec)) (old new : Counts) → HasEpochs sys → IsLegal sys (Inject s x ∷ h)
+    → AreSameRecs (recs_sent sys h (Inject s x)) sent → IsCountOf sys h old → IsInjected sys.flow s sent old new → IsCountOf sys (Inject s x ∷ h) new
 injected-counts sys h s x sent old new b l is c d = record {
   pending = pending-event sys h (Inject s x) sent old.pending.items old.pending.items new.pending.items l is c.pending (λ e m t. omega arith) d.sends;
   owed = λ p l t. ap (λ xs. has_one t (get_or xs p [])) d.owed ∙ c.owed p l t;
@@ -287,7 +343,7 @@ owed-cases : (a k wd wn z : Bool) → (a ≡ true → z ≡ false) → (a ≡ fa
 owed-cases true k wd wn z e f = e refl ∙ sym (and-false (k && wd))
 owed-cases false k wd wn z e f = f refl
 
-owed-notified : (sys : System) (h : List Event) (p : ℕ) (t : Stamp) (sent : List Stamp) (old new : Counts) → IsCountOf sys h old → IsNotified sys.flow p t sent old new
+owed-notified : (sys : System) (h : List Event) (p : ℕ) (t : Stamp) (sent : List (Stamp × Rec)) (old new : Counts) → IsCountOf sys h old → IsNotified sys.flow p t sent old new
     → (q : ℕ) → q < length sys.flow.nodes → (s : Stamp) → has_one s (owed_of new q) ≡ is_owed_notice sys (Notify p t ∷ h) q s
 owed-notified sys h p t sent old new c d q there s =
     let k = is_notified_kind (kind_of sys.flow q) in
@@ -307,11 +363,11 @@ owed-notified sys h p t sent old new c d q there s =
     ]
 
 -- the table of a sequence after a notification
-table-notified : (sys : System) (h : List Event) (p x : ℕ) (sent : List Stamp) (old new : Counts) → IsWellFormed sys.flow → HasEpochs sys → IsLegal sys (Notify p (x ∷ []) ∷ h)
+table-notified : (sys : System) (h : List Event) (p x : ℕ) (sent : List (Stamp × Rec)) (old new : Counts) → IsWellFormed sys.flow → HasEpochs sys → IsLegal sys (Notify p (x ∷ []) ∷ h)
     → SendsByCount (kind_of sys.flow p) → p < length sys.flow.nodes → IsCountOf sys h old → IsNotified sys.flow p (x ∷ []) sent old new → sent_of new p ≡ sent_of old p ++ (x, length sent) ∷ []
 table-notified sys h p x sent old new w b l k there c d = (d.counted k x refl).here (takes-next sys h p x old w b l k there c)
 
-other-table : (sys : System) (p q : ℕ) (t : Stamp) (sent : List Stamp) (old new : Counts) → IsNotified sys.flow p t sent old new → q ≢ p → (SendsByCount (kind_of sys.flow p) → (x : ℕ) × (t ≡ x ∷ []))
+other-table : (sys : System) (p q : ℕ) (t : Stamp) (sent : List (Stamp × Rec)) (old new : Counts) → IsNotified sys.flow p t sent old new → q ≢ p → (SendsByCount (kind_of sys.flow p) → (x : ℕ) × (t ≡ x ∷ []))
     → sent_of new q ≡ sent_of old q
 other-table sys p q t sent old new d n line = elim (cases_Bool (is_sequence_kind (kind_of sys.flow p))) [
   | inr i ↦ ap (λ xs. get_or xs q []) (d.counted_none i)
@@ -328,9 +384,9 @@ epoch-of sys h p t w b l k =
     let line = in_line t greatest_number (sym (ap (λ c. in_domain c t) (bounds-sequence sys.flow p k)) ∙ d) in
     (line.0, line.1)
 
--- the stamps at which a sequence sends by a notification are as many as its messages
-sent-length : (sys : System) (h : List Event) (p : ℕ) (t : Stamp) (sent : List Stamp) → stamps_sent sys h (Notify p t) ≡ sent → length (sends sys p (events_at sys.flow p h) (Notify p t)) ≡ length sent
-sent-length sys h p t sent is = sym (length-map (sends sys p (events_at sys.flow p h) (Notify p t)) (λ (m : Message). m.at)) ∙ ap length is
+-- the recs that a sequence sends by a notification are as many as its messages
+sent-length : (sys : System) (h : List Event) (p : ℕ) (t : Stamp) (sent : List (Stamp × Rec)) → AreSameRecs (recs_sent sys h (Notify p t)) sent → length (sends sys p (events_at sys.flow p h) (Notify p t)) ≡ length sent
+sent-length sys h p t sent is = sym (length-map (sends sys p (events_at sys.flow p h) (Notify p t)) (λ (m : Message). (m.at, m.rec))) ∙ same-length (recs_sent sys h (Notify p t)) sent is
 
 -- each epoch of the table of a sequence is one of which it was notified
 epochs-grow : (p x n : ℕ) (h : List Event) (table : List (ℕ × ℕ)) → AllByRecursion (λ entry. was_notified p (entry.0 ∷ []) h ≡ true) table
@@ -342,8 +398,8 @@ epochs-grow p x n h table a =
     (λ entry k. or_right (p == p && same (x ∷ []) (entry.0 ∷ [])) (was_notified p (entry.0 ∷ []) h) k) a)
     (or_left (p == p && same (x ∷ []) (x ∷ [])) (was_notified p (x ∷ []) h) (and_from (p == p) (same (x ∷ []) (x ∷ [])) (eq-eqb p p refl) (same-refl (x ∷ []))), tt)
 
-pub notified-counts : (sys : System) (h : List Event) (p : ℕ) (t : Stamp) (sent : List Stamp) (old new : Counts) → IsWellFormed sys.flow → HasEpochs sys → IsLegal sys (Notify p t ∷ h) → p < length sys.flow.nodes
-    → stamps_sent sys h (Notify p t) ≡ sent → IsCountOf sys h old → IsNotified sys.flow p t sent old new → IsCountOf sys (Notify p t ∷ h) new
+pub notified-counts : (sys : System) (h : List Event) (p : ℕ) (t : Stamp) (sent : List (Stamp × Rec)) (old new : Counts) → IsWellFormed sys.flow → HasEpochs sys → IsLegal sys (Notify p t ∷ h) → p < length sys.flow.nodes
+    → AreSameRecs (recs_sent sys h (Notify p t)) sent → IsCountOf sys h old → IsNotified sys.flow p t sent old new → IsCountOf sys (Notify p t ∷ h) new
 notified-counts sys h p t sent old new w b l there is c d =
     let v : Event = Notify p t in
     let line = epoch-of sys h p t w b l in

@@ -20,7 +20,7 @@ use Rattle.fw_model.proofs.DescentLaws.{total, total-less, covers-at}
 use Rattle.fw_progress.specs.declared.counts.Counts.{Counts}
 use Rattle.fw_progress.specs.declared.growth.Growth.{Growth}
 use Rattle.fw_progress.specs.Counts.{come_by, target_by, IsAdmissibleBy, IsStuckBy, is_in}
-use Rattle.fw_progress.specs.Growths.{IsMore, IsNoMore, AreGrowths, out_degrees, ArePut, IsGrown, HaveGrown, IsTakenUp}
+use Rattle.fw_progress.specs.Growths.{IsMore, IsNoMore, AreGrowths, out_degrees, ArePut, IsGrown, HaveGrown, IsWidened}
 use Rattle.fw_progress.proofs.TargetLaws.{target-monotone, target-less}
 
 -- ---- one front in a list of one for each node
@@ -162,20 +162,20 @@ grown_then flow counts old mid new work some rest growths more most a b =
       leaves = λ q l out s. b.leaves q l out (a.leaves q l (false_from_ne_true (is_in some q) (λ k. both_ways (is_in rest q) out (b.stays q k))) s);
     }
 
--- ---- a node is taken up
+-- ---- a node is widened, or has the largest frontier
 
-pub taken_same : (flow : Dataflow) (counts : Counts) (p : ℕ) (old : List Front) (work : List ℕ) (growths : List Growth) → p < length flow.nodes → IsNoMore flow counts old p
-    → IsTakenUp flow counts p old old work work growths growths
-taken_same flow counts p old work growths l none = record {
+pub widened_same : (flow : Dataflow) (counts : Counts) (p : ℕ) (old : List Front) (work : List ℕ) (growths : List Growth) → p < length flow.nodes → IsNoMore flow counts old p
+    → IsWidened flow counts p old old work work growths growths
+widened_same flow counts p old work growths l none = record {
   grew = none_grown flow counts old work growths;
   admissible = λ a. a;
   stuck = λ a out. none (a.within p l);
 }
 
-pub taken_more : (flow : Dataflow) (counts : Counts) (p : ℕ) (old new : List Front) (work rest : List ℕ) (growths more : List Growth) (f : Front) → IsWellFormed flow → p < length old
+pub widened_more : (flow : Dataflow) (counts : Counts) (p : ℕ) (old new : List Front) (work rest : List ℕ) (growths more : List Growth) (f : Front) → IsWellFormed flow → p < length old
     → IsFrontOf (bounds_of flow p) f (target_by flow counts (family_of flow old) p) → IsMore flow old p f → IsGrown flow p f old new work rest growths more
-    → IsTakenUp flow counts p old new work rest growths more
-taken_more flow counts p old new work rest growths more f w l n m g = record {
+    → IsWidened flow counts p old new work rest growths more
+widened_more flow counts p old new work rest growths more f w l n m g = record {
   grew = one_grown flow counts p f old new work rest growths more w l n.canonical m g;
   admissible = λ a. subst (λ xs. IsAdmissibleBy flow counts (family_of flow xs)) (sym g.changed) (widened-admissible flow counts old p f l n m.above a);
   stuck = λ a out. subst (λ xs. IsStuckBy flow counts xs p) (sym g.changed)

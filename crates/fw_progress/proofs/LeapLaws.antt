@@ -14,7 +14,7 @@ use Rattle.fw_model.specs.Machine.{front_of, family_of, AreCanonical}
 use Rattle.fw_progress.specs.declared.counts.Counts.{Counts}
 use Rattle.fw_progress.specs.declared.growth.Growth.{Growth}
 use Rattle.fw_progress.specs.Counts.{target_by, IsAdmissibleBy}
-use Rattle.fw_progress.specs.Growths.{IsMore, IsGrown, HaveGrown, IsTakenUp}
+use Rattle.fw_progress.specs.Growths.{IsMore, IsGrown, HaveGrown}
 use Rattle.fw_progress.specs.Leap.{is_node_marked, CanLeapAt, CanLeap, AreAbove, IsReachedAt, HaveReached, HaveLeapt, IsClimbing, AreLedTo, AreProposed, AreNoneProposed, IsWithoutProposal, CannotLeap, AreLowered, StaysLow}
 use Rattle.fw_progress.proofs.TargetLaws.{target-monotone}
 use Rattle.fw_progress.proofs.GrowLaws.{family_new, family_old, family_grows, none_grown, one_grown, grown_then}
@@ -157,15 +157,6 @@ have_leapt flow counts p old next new work rest growths more marks one two climb
   grew = r.grew;
   admissible = λ a. same-admissible flow counts next new (r.grew.one_each ∙ one) r.below r.above (leap-admissible flow counts old next two can a);
   taken = inl (record { climbs = climbs; marks = marks; led = led; next = next; proposed = proposed; can = can; below = r.below; above = r.above });
-}
-
--- a leap, and then the node is widened
-pub leapt_taken : (flow : Dataflow) (counts : Counts) (p : ℕ) (old mid new : List Front) (work some rest : List ℕ) (growths more most : List Growth)
-    → HaveLeapt flow counts p old mid work some growths more → IsTakenUp flow counts p mid new some rest more most → IsTakenUp flow counts p old new work rest growths most
-leapt_taken flow counts p old mid new work some rest growths more most a b = record {
-  grew = grown_then flow counts old mid new work some rest growths more most a.grew b.grew;
-  admissible = λ k. b.admissible (a.admissible k);
-  stuck = λ k out. b.stuck (a.admissible k) out;
 }
 
 -- ---- what is read

@@ -4,7 +4,7 @@ use Rattle.std.specs.Prelude.{filter, option_to_list}
 use Rattle.std.specs.List.{AllByRecursion, Contains, flat_map}
 use Rattle.std.proofs.lemmas.Bool.{eq-eqb, eqb-true}
 use Rattle.std.proofs.lemmas.List.Elements.{filter-append}
-use Rattle.fw_lemmas.proofs.Each.{each-weaker, each-both, each-append, each-map}
+use Rattle.fw_lemmas.proofs.Each.{each-weaker, each-append, each-map, each-there}
 use Rattle.fw_lemmas.proofs.Filters.{filter-all, filter-none}
 use Rattle.fw_time.specs.Stamp.{Stamp, in_domain}
 use Rattle.fw_frontier.specs.Frontier.{Frontier}
@@ -17,13 +17,14 @@ use Rattle.fw_flow.specs.Projection.{events_at, all_inside}
 use Rattle.fw_flow.specs.WellFormed.{IsWellFormed}
 use Rattle.fw_model.specs.History.{sent_messages}
 use Rattle.fw_model.specs.Offers.{AreAtEdgeStamps, counted_on_edge, stamps_on}
-use Rattle.fw_model.specs.Thinned.{IsThinnedIf}
 use Rattle.fw_model.proofs.CarriedLaws.{carried-each}
 use Rattle.fw_model.proofs.DependenceLaws.{in_edges-each}
 use Rattle.fw_model.proofs.LegalLaws.{edge_domains}
 use Rattle.fw_model.proofs.SendingLaws.{send_stamp-in_domain}
 use Rattle.fw_model.proofs.SendsLaws.{IsOfCause, sent_by-of_cause}
 use Rattle.fw_model.proofs.ThinnedLaws.{each-contained}
+use Rattle.fw_model.specs.Alike.{StandForCauses}
+use Rattle.fw_model.proofs.AlikeLaws.{kept-of_domain, kept-sends}
 use Rattle.fw_model.specs.EventStamps.{causes_of, causes_in, StandForSent}
 use Rattle.fw_model.specs.EventStamps.{IsOfCause as IsCounted}
 use Rattle.fw_progress.specs.Covers.{sent_stamp_at, send_stamps}
@@ -164,18 +165,20 @@ causes-send flow p (m ∷ ms) a =
     subst (λ (cs : List Stamp). AllByRecursion Q (cs ++ causes_in ms)) (sym c.2) ((m.at, c.1), causes-send flow p ms a.1)
 
 -- each stamp that is among the causes of what was sent on an edge sends
-pub kept-send : (sys : System) (h : List Event) (e : ℕ) (kept : List Stamp) → is_sequence_kind (kind_of sys.flow (sender sys.flow e)) ≡ false
-    → AreOf (bounds_of sys.flow (sender sys.flow e)) (causes_in (sent_messages sys h e)) → AllByRecursion (Contains (causes_in (sent_messages sys h e))) kept
-    → AllByRecursion (Sends sys.flow (sender sys.flow e)) kept
-kept-send sys h e kept n d among =
+pub kept-send : (sys : System) (h : List Event) (e : ℕ) (whole : Bool) (base : Frontier) (kept : List Stamp) → is_sequence_kind (kind_of sys.flow (sender sys.flow e)) ≡ false
+    → AreOf (bounds_of sys.flow (sender sys.flow e)) (causes_in (sent_messages sys h e))
+    → StandForCauses sys.flow (sender sys.flow e) whole base (causes_in (sent_messages sys h e)) kept → AllByRecursion (Sends sys.flow (sender sys.flow e)) kept
+kept-send sys h e whole base kept n d s =
     let p = sender sys.flow e in
     let all = causes_in (sent_messages sys h e) in
-    let both : AllByRecursion (Sends sys.flow p) all =
-    each-weaker (λ s. (in_domain (bounds_of sys.flow p) s ≡ true) × ((w : Stamp) × (send_stamp sys.flow p s ≡ Some w))) (Sends sys.flow p) all (λ s k. (k.0, k.1.0, k.1.1))
-    (each-both (λ s. in_domain (bounds_of sys.flow p) s ≡ true) (λ s. (w : Stamp) × (send_stamp sys.flow p s ≡ Some w)) all d
-    (causes-send sys.flow p (sent_messages sys h e)
-    (carried-each sys.flow e (IsOfCause sys.flow p) (sent_by sys p (events_at sys.flow p h)) (sent_by-of_cause sys p n (events_at sys.flow p h))))) in
-    each-weaker (Contains all) (Sends sys.flow p) kept (λ s c. each-contained (Sends sys.flow p) s all c both) among
+    let P : Stamp → Type 0 = λ t. (w : Stamp) × (send_stamp sys.flow p t ≡ Some w) in
+    let sends = causes-send sys.flow p (sent_messages sys h e)
+    (carried-each sys.flow e (IsOfCause sys.flow p) (sent_by sys p (events_at sys.flow p h)) (sent_by-of_cause sys p n (events_at sys.flow p h))) in
+    each-weaker (Contains kept) (Sends sys.flow p) kept
+    (λ t c.
+    let own = each-contained (λ u. in_domain (bounds_of sys.flow p) u ≡ true) t kept c (kept-of_domain sys.flow p whole base all kept s d) in
+    let k = kept-sends sys.flow p whole base all kept s (λ u k. each-contained P u all k sends) t c in
+    (own, k.0, k.1)) (each-there kept)
 
 -- at which stamps messages of these causes are that come from inside a set
 pub messages-inside : (flow : Dataflow) (p : ℕ) (ss : List Stamp) (e : ℕ) (f : Frontier)
@@ -216,9 +219,9 @@ sent-on flow p kept e l r =
 
 -- what stands for what a node sent on an edge
 pub stands-for_sent : (whole : Bool) (sys : System) (h : List Event) (p : ℕ) (base : Frontier) (ss : List Stamp) (e : ℕ) → e < length sys.flow.edges → sender sys.flow e ≡ p
-    → AllByRecursion (Sends sys.flow p) ss → IsThinnedIf whole base (causes_in (sent_messages sys h e)) ss
+    → AllByRecursion (Sends sys.flow p) ss → StandForCauses sys.flow p whole base (causes_in (sent_messages sys h e)) ss
     → StandForSent whole sys h p base e (counted_at_stamps sys.flow p ss e)
 stands-for_sent whole sys h p base ss e l r a t = record {
   of_cause = messages-of_cause sys.flow p ss e a;
-  thinned = subst (IsThinnedIf whole base (causes_in (sent_messages sys h e))) (sym (messages-causes sys.flow p ss e a)) t;
+  thinned = subst (StandForCauses sys.flow p whole base (causes_in (sent_messages sys h e))) (sym (messages-causes sys.flow p ss e a)) t;
 }

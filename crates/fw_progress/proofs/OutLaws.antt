@@ -1,5 +1,5 @@
 -- The lists of a node's out-edges, changed one after the other.
-use Rattle.std.proofs.Common.{◌≡◌, ◌≢◌, ℕ, zero, suc, ◌+◌, ◌<◌, ◌≤◌, true, false, ◌||◌, ◌==◌, List, [], ◌∷◌, ◌++◌, length, get_or, take, refl, sym, ap, subst, ◌∙◌, inl, inr, arith}
+use Rattle.std.proofs.Common.{◌≡◌, ℕ, zero, suc, ◌+◌, ◌<◌, ◌≤◌, true, false, ◌||◌, ◌==◌, List, [], ◌∷◌, ◌++◌, length, get_or, take, refl, sym, ap, subst, ◌∙◌, inl, inr, arith}
 use Rattle.std.specs.List.{AllByRecursion}
 use Rattle.std.proofs.lemmas.Bool.{cases_eq, cases_lt, cond_both, eq-eqb, eqb-true, false_from_ne_true, both_ways, or_cases, or_left, or_right}
 use Rattle.std.proofs.lemmas.List.{get_or_past, take_more}
@@ -9,7 +9,7 @@ use Rattle.fw_flow.specs.declared.node.Edge.{Edge}
 use Rattle.fw_flow.specs.Dataflow.{Dataflow, sender, edges_from, out_edges, is_one_of}
 use Rattle.fw_flow.proofs.OutEdgeLaws.{out_edges-at, out_edges-from}
 use Rattle.fw_progress.specs.Progress.{ChangesAt}
-use Rattle.fw_progress.specs.Traces.{ChangesOut}
+use Rattle.fw_progress.specs.Traces.{ChangesOut, ChangesEachOut}
 use Rattle.fw_progress.proofs.IntoLaws.{in-push}
 
 abbrev Lists : Type 0
@@ -122,13 +122,8 @@ changing-more flow p R edges i x old mid new es l is a c =
         c.others d (λ e. both_ways (is_one_of d so_far || (x == d)) none (or_right (is_one_of d so_far) (x == d) (eq-eqb x d (sym e))))
         ∙ a.others d (false_from_ne_true (is_one_of d so_far) (λ j. both_ways (is_one_of d so_far || (x == d)) none (or_left (is_one_of d so_far) (x == d) j)))
 
--- The lists of all out-edges of node p are changed, each in its way, and the others are as they were.
-pub record AreChangedOut (flow : Dataflow) (p : ℕ) (R : ℕ → Change) (old new : Lists) : Type 0 where
-  pub one_each : length new ≡ length old
-  pub here : (e : ℕ) → e < length flow.edges → sender flow e ≡ p → R e (get_or old e []) (get_or new e [])
-  pub others : (e : ℕ) → sender flow e ≢ p → get_or new e [] ≡ get_or old e []
-
-pub all-changed_out : (flow : Dataflow) (p : ℕ) (R : ℕ → Change) (edges : List ℕ) (old new : Lists) → edges ≡ out_edges flow p → AreChanging R edges old new → AreChangedOut flow p R old new
+-- so the lists of all out-edges are changed, each in its way
+pub all-changed_out : (flow : Dataflow) (p : ℕ) (R : ℕ → Change) (edges : List ℕ) (old new : Lists) → edges ≡ out_edges flow p → AreChanging R edges old new → ChangesEachOut flow p R old new
 all-changed_out flow p R edges old new is a = record {
   one_each = a.one_each;
   here = λ e l s. a.here e (ap (λ ds. is_one_of e ds) is ∙ out-among flow p e l s);
@@ -137,6 +132,4 @@ all-changed_out flow p R edges old new is a = record {
 
 -- so they are changed, where all are changed in one way
 pub changed-out : (flow : Dataflow) (p : ℕ) (R : Change) (edges : List ℕ) (old new : Lists) → edges ≡ out_edges flow p → AreChanging (λ e. R) edges old new → ChangesOut flow p R old new
-changed-out flow p R edges old new is a =
-    let c = all-changed_out flow p (λ e. R) edges old new is a in
-    record { one_each = c.one_each; here = c.here; others = c.others }
+changed-out flow p R edges old new is a = all-changed_out flow p (λ e. R) edges old new is a

@@ -6,6 +6,7 @@ use Rattle.std.proofs.lemmas.Bool.{both_ways, cases_Bool, cases_eq, cases_lt, lt
 use Rattle.std.proofs.lemmas.List.{get_or_past, length-map}
 use Rattle.std.proofs.lemmas.List.FromFn.{get_or-map-range_with_len, length-range_with_len}
 use Rattle.fw_time.specs.Stamp.{Stamp, in_domain}
+use Rattle.fw_bag.specs.declared.rec.Rec.{Rec}
 use Rattle.fw_frontier.specs.Front.{Front, IsCanonical}
 use Rattle.fw_flow.specs.declared.event.Event.{Event}
 use Rattle.fw_flow.specs.declared.event.Event.TheVariants.{Inject, Deliver, Notify}
@@ -18,9 +19,10 @@ use Rattle.fw_model.specs.Machine.{front_of, family_of, no_stamps, AreCanonical}
 use Rattle.fw_progress.specs.declared.counts.Counts.{Counts}
 use Rattle.fw_progress.specs.declared.growth.Growth.{Growth}
 use Rattle.fw_progress.specs.Counts.{owed_of, AreCounts, AreNodes, AreStuckOutside}
-use Rattle.fw_progress.specs.Growths.{IsEnlisted, IsRefreshed}
+use Rattle.fw_progress.specs.Growths.{IsEnlisted}
+use Rattle.fw_progress.specs.Refresh.{IsRefreshed}
 use Rattle.fw_progress.specs.History.{IsCountOf, AreKeptAdmissible, StandsForHistory, FollowsEvent}
-use Rattle.fw_progress.specs.Progress.{Standing, IsOfFlow, CanSend, DeliversOne, IsNotified, IsInjected}
+use Rattle.fw_progress.specs.Progress.{Standing, IsOfFlow, CanSend, DeliversOne, IsNotified, IsInjected, stamps_of_recs}
 use Rattle.fw_progress.specs.Tally.{IsTallyOf}
 use Rattle.fw_progress.specs.Notices.{CanNotify, IsFirstNotice, IsFirstOwed}
 use Rattle.fw_progress.specs.Start.{AreLargest}
@@ -31,8 +33,8 @@ use Rattle.fw_progress.proofs.HistoryLaws.{kept-by, by-kept, kept-complete}
 
 -- ---- the counts stay those of the flow
 
-counts-delivered : (flow : Dataflow) (e : ℕ) (at : Stamp) (sent : List Stamp) (old new : Counts) → AreCounts flow old → e < length flow.edges → in_domain (bounds_of flow (receiver flow e)) at ≡ true
-    → CanSend flow (receiver flow e) sent → DeliversOne flow e at sent old new → AreCounts flow new
+counts-delivered : (flow : Dataflow) (e : ℕ) (at : Stamp) (sent : List (Stamp × Rec)) (old new : Counts) → AreCounts flow old → e < length flow.edges → in_domain (bounds_of flow (receiver flow e)) at ≡ true
+    → CanSend flow (receiver flow e) (stamps_of_recs sent) → DeliversOne flow e at sent old new → AreCounts flow new
 counts-delivered flow e at sent old new a l i can d = record {
   pending_each = d.sends.one_each ∙ d.taken.one_each ∙ a.pending_each;
   owed_each = elim (cases_Bool (is_notified_kind (kind_of flow (receiver flow e)))) [ inl k ↦ (d.owes k).one_each ∙ a.owed_each | inr k ↦ ap length (d.owes_none k) ∙ a.owed_each ];
@@ -54,7 +56,7 @@ counts-delivered flow e at sent old new a l i can d = record {
   ];
 }
 
-counts-notified : (flow : Dataflow) (p : ℕ) (at : Stamp) (sent : List Stamp) (old new : Counts) → AreCounts flow old → CanSend flow p sent → IsNotified flow p at sent old new → AreCounts flow new
+counts-notified : (flow : Dataflow) (p : ℕ) (at : Stamp) (sent : List (Stamp × Rec)) (old new : Counts) → AreCounts flow old → CanSend flow p (stamps_of_recs sent) → IsNotified flow p at sent old new → AreCounts flow new
 counts-notified flow p at sent old new a can d = record {
   pending_each = d.sends.one_each ∙ a.pending_each;
   owed_each = d.paid.one_each ∙ a.owed_each;
@@ -68,7 +70,7 @@ counts-notified flow p at sent old new a can d = record {
   ];
 }
 
-counts-injected : (flow : Dataflow) (p : ℕ) (sent : List Stamp) (old new : Counts) → AreCounts flow old → CanSend flow p sent → IsInjected flow p sent old new → AreCounts flow new
+counts-injected : (flow : Dataflow) (p : ℕ) (sent : List (Stamp × Rec)) (old new : Counts) → AreCounts flow old → CanSend flow p (stamps_of_recs sent) → IsInjected flow p sent old new → AreCounts flow new
 counts-injected flow p sent old new a can d = record {
   pending_each = d.sends.one_each ∙ a.pending_each;
   owed_each = ap length d.owed ∙ a.owed_each;
@@ -94,18 +96,18 @@ of_flow flow p old new o l a put s k = record {
   nodes = nodes-put flow p old.work new.work l put o.nodes;
 }
 
-pub delivered_of : (flow : Dataflow) (e : ℕ) (at : Stamp) (sent : List Stamp) (old new : Standing) → IsWellFormed flow → IsOfFlow flow old → e < length flow.edges → in_domain (bounds_of flow (receiver flow e)) at ≡ true
-    → CanSend flow (receiver flow e) sent → DeliversOne flow e at sent old.counts new.counts → IsEnlisted (receiver flow e) old.work new.work
+pub delivered_of : (flow : Dataflow) (e : ℕ) (at : Stamp) (sent : List (Stamp × Rec)) (old new : Standing) → IsWellFormed flow → IsOfFlow flow old → e < length flow.edges → in_domain (bounds_of flow (receiver flow e)) at ≡ true
+    → CanSend flow (receiver flow e) (stamps_of_recs sent) → DeliversOne flow e at sent old.counts new.counts → IsEnlisted (receiver flow e) old.work new.work
     → new.settled ≡ old.settled → new.kept ≡ old.kept → IsOfFlow flow new
 delivered_of flow e at sent old new w o l i can d put s k =
     of_flow flow (receiver flow e) old new o (w.receivers_declared e l) (counts-delivered flow e at sent old.counts new.counts o.counts l i can d) put s k
 
-pub notified_of : (flow : Dataflow) (p : ℕ) (at : Stamp) (sent : List Stamp) (old new : Standing) → IsOfFlow flow old → p < length flow.nodes → CanSend flow p sent
+pub notified_of : (flow : Dataflow) (p : ℕ) (at : Stamp) (sent : List (Stamp × Rec)) (old new : Standing) → IsOfFlow flow old → p < length flow.nodes → CanSend flow p (stamps_of_recs sent)
     → IsNotified flow p at sent old.counts new.counts → IsEnlisted p old.work new.work
     → new.settled ≡ old.settled → new.kept ≡ old.kept → IsOfFlow flow new
 notified_of flow p at sent old new o l can d put s k = of_flow flow p old new o l (counts-notified flow p at sent old.counts new.counts o.counts can d) put s k
 
-pub injected_of : (flow : Dataflow) (p : ℕ) (sent : List Stamp) (old new : Standing) → IsOfFlow flow old → p < length flow.nodes → CanSend flow p sent
+pub injected_of : (flow : Dataflow) (p : ℕ) (sent : List (Stamp × Rec)) (old new : Standing) → IsOfFlow flow old → p < length flow.nodes → CanSend flow p (stamps_of_recs sent)
     → IsInjected flow p sent old.counts new.counts → IsEnlisted p old.work new.work → new.settled ≡ old.settled → new.kept ≡ old.kept → IsOfFlow flow new
 injected_of flow p sent old new o l can d put s k = of_flow flow p old new o l (counts-injected flow p sent old.counts new.counts o.counts can d) put s k
 
@@ -117,7 +119,7 @@ kept-on sys h v flow old new e w b l put k s =
     subst (λ fronts. AreKeptAdmissible sys (v ∷ h) fronts new.work) (sym k)
     (kept-event sys h v (subst IsWellFormed (sym e) w) b l old.kept old.work new.work (subst (λ f. IsEnlisted (event_node f v) old.work new.work) (sym e) put) s)
 
-pub delivered_follows : (flow : Dataflow) (e : ℕ) (m : Message) (at : Stamp) (sent : List Stamp) (old new : Standing) → IsWellFormed flow → m.at ≡ at → DeliversOne flow e at sent old.counts new.counts
+pub delivered_follows : (flow : Dataflow) (e : ℕ) (m : Message) (at : Stamp) (sent : List (Stamp × Rec)) (old new : Standing) → IsWellFormed flow → m.at ≡ at → DeliversOne flow e at sent old.counts new.counts
     → IsEnlisted (receiver flow e) old.work new.work → new.kept ≡ old.kept → FollowsEvent flow (Deliver e m) sent old new
 delivered_follows flow e m at sent old new w i d put k sys h same b l is s = record {
   counts = delivered-counts sys h e m sent old.counts new.counts (subst IsWellFormed (sym same) w) b l is s.counts
@@ -125,7 +127,7 @@ delivered_follows flow e m at sent old new w i d put k sys h same b l is s = rec
   kept = kept-on sys h (Deliver e m) flow old new same w b l put k s.kept;
 }
 
-pub notified_follows : (flow : Dataflow) (p : ℕ) (at : Stamp) (sent : List Stamp) (old new : Standing) → IsWellFormed flow → p < length flow.nodes → IsNotified flow p at sent old.counts new.counts
+pub notified_follows : (flow : Dataflow) (p : ℕ) (at : Stamp) (sent : List (Stamp × Rec)) (old new : Standing) → IsWellFormed flow → p < length flow.nodes → IsNotified flow p at sent old.counts new.counts
     → IsEnlisted p old.work new.work → new.kept ≡ old.kept → FollowsEvent flow (Notify p at) sent old new
 notified_follows flow p at sent old new w there d put k sys h same b l is s = record {
   counts = notified-counts sys h p at sent old.counts new.counts (subst IsWellFormed (sym same) w) b l (subst (λ f. p < length f.nodes) (sym same) there) is s.counts
@@ -133,7 +135,7 @@ notified_follows flow p at sent old new w there d put k sys h same b l is s = re
   kept = kept-on sys h (Notify p at) flow old new same w b l put k s.kept;
 }
 
-pub injected_follows : (flow : Dataflow) (p x : ℕ) (sent : List Stamp) (old new : Standing) → IsWellFormed flow → IsInjected flow p sent old.counts new.counts
+pub injected_follows : (flow : Dataflow) (p x : ℕ) (sent : List (Stamp × Rec)) (old new : Standing) → IsWellFormed flow → IsInjected flow p sent old.counts new.counts
     → IsEnlisted p old.work new.work → new.kept ≡ old.kept → FollowsEvent flow (Inject p x) sent old new
 injected_follows flow p x sent old new w d put k sys h same b l is s = record {
   counts = injected-counts sys h p x sent old.counts new.counts b l is s.counts (subst (λ f. IsInjected f p sent old.counts new.counts) (sym same) d);

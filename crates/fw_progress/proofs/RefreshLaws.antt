@@ -1,5 +1,5 @@
 -- Widening until no node can be widened: what each step keeps, that it ends, and what it comes to.
-use Rattle.std.proofs.Common.{◌≡◌, ◌≢◌, ℕ, ◌+◌, ◌*◌, ◌<◌, ◌≤◌, Bool, false, ◌||◌, ◌==◌, nat_lt, List, [], ◌∷◌, length, refl, sym, ap, subst, ◌∙◌, inl, inr, arith}
+use Rattle.std.proofs.Common.{◌≡◌, ◌≢◌, ℕ, suc, ◌+◌, ◌*◌, ◌<◌, ◌≤◌, Bool, false, ◌||◌, ◌==◌, nat_lt, List, [], ◌∷◌, length, refl, sym, ap, subst, ◌∙◌, inl, inr, arith}
 use Rattle.std.specs.List.{list_all}
 use Rattle.std.proofs.Math.Nat.{mul-le-mul_left}
 use Rattle.std.proofs.lemmas.Bool.{and_parts, cases_eq, eqb-true, false_from_ne_true, ltb-true, both_ways}
@@ -9,8 +9,9 @@ use Rattle.fw_model.specs.Machine.{family_of, AreCanonical}
 use Rattle.fw_progress.specs.declared.counts.Counts.{Counts}
 use Rattle.fw_progress.specs.declared.growth.Growth.{Growth}
 use Rattle.fw_progress.specs.Counts.{IsAdmissibleBy, IsStuckBy, is_in, AreStuckOutside, AreNodes}
-use Rattle.fw_progress.specs.Growths.{AreGrowths, out_degrees, IsTakenUp, IsRefreshed}
-use Rattle.fw_progress.proofs.GrowLaws.{outside_count, growths_outside, degrees-append, degrees-few, growths-append}
+use Rattle.fw_progress.specs.Growths.{AreGrowths, out_degrees, IsWidened}
+use Rattle.fw_progress.specs.Refresh.{IsTakenUp, AreTakenInTurn, IsRefreshed}
+use Rattle.fw_progress.proofs.GrowLaws.{outside_count, growths_outside, degrees-append, degrees-few, growths-append, grown_then}
 
 -- how far a refresh has come
 pub record IsRefreshing (flow : Dataflow) (counts : Counts) (first : List Front) (start : List ℕ) (begun : ℕ) (fronts : List Front) (work : List ℕ) (growths : List Growth) (steps : ℕ) : Type 0 where
@@ -22,7 +23,22 @@ pub record IsRefreshing (flow : Dataflow) (counts : Counts) (first : List Front)
   pub grown : AreGrowths flow first growths fronts
   pub bound : steps + length work ≤ begun + length start + out_degrees flow growths
   pub each_taken : begun + length start ≤ steps + length work
+  pub count : ℕ
+  pub taken : AreTakenInTurn flow counts count first fronts start work [] growths
+  pub counted : steps ≡ begun + count
   pub still : start ≡ [] → (work ≡ []) × (fronts ≡ first)
+
+-- a node that was taken up was widened, by the leap or after it
+taken-widened : (flow : Dataflow) (counts : Counts) (p : ℕ) (old new : List Front) (work rest : List ℕ) (growths more : List Growth)
+    → IsTakenUp flow counts p old new work rest growths more → IsWidened flow counts p old new work rest growths more
+taken-widened flow counts p old new work rest growths more t =
+    let a = t.leapt in
+    let b = t.widened in
+    record {
+      grew = grown_then flow counts old t.mid new work t.between rest growths t.some more a.grew b.grew;
+      admissible = λ k. b.admissible (a.admissible k);
+      stuck = λ k out. b.stuck (a.admissible k) out;
+    }
 
 -- how much is left
 unfoldable pub left_over : Dataflow → List Front → List ℕ → ℕ
@@ -39,6 +55,9 @@ start_refreshing flow counts first start begun growths one c n e = record {
   grown = subst (λ gs. AreGrowths flow first gs first) (sym e) refl;
   bound = omega arith;
   each_taken = omega arith;
+  count = 0;
+  taken = (refl, refl, e);
+  counted = omega arith;
   still = λ k. (k, refl);
 }
 
@@ -60,7 +79,8 @@ none_taken k e = absurd (cc (k, e))
 pub taken_step : (flow : Dataflow) (counts : Counts) (first : List Front) (start : List ℕ) (begun : ℕ) (fronts new : List Front) (work mid rest : List ℕ) (p : ℕ) (growths more : List Growth) (steps next : ℕ)
     → work ≡ p ∷ mid → next ≡ steps + 1 → IsRefreshing flow counts first start begun fronts work growths steps
     → IsTakenUp flow counts p fronts new mid rest growths more → IsRefreshing flow counts first start begun new rest more next
-taken_step flow counts first start begun fronts new work mid rest p growths more steps next e s r a =
+taken_step flow counts first start begun fronts new work mid rest p growths more steps next e s r u =
+    let a = taken-widened flow counts p fronts new mid rest growths more u in
     let g = a.grew in
     let there = first_node flow work mid p e r.nodes in
     let long : length work ≡ length mid + 1 = ap length e ∙ (omega arith) in
@@ -83,6 +103,9 @@ taken_step flow counts first start begun fronts new work mid rest p growths more
       grown = subst (λ gs. AreGrowths flow first gs new) (sym g.listed) (growths-append flow first growths fronts g.added new r.grown g.grown);
       bound = omega arith;
       each_taken = omega arith;
+      count = suc r.count;
+      taken = (fronts, work, growths, r.taken, record { node = p; left = mid; first = e; taken = u });
+      counted = omega (arith, s, r.counted);
       still = λ k. none_taken (r.still k).0 e;
     }
 
@@ -98,8 +121,8 @@ pub taken_falls : (flow : Dataflow) (counts : Counts) (fronts new : List Front) 
     → length fronts ≡ length flow.nodes → work ≡ p ∷ mid
     → IsTakenUp flow counts p fronts new mid rest growths more → left_over flow new rest < left_over flow fronts work
 unfolding left_over
-taken_falls flow counts fronts new work mid rest p growths more one e a =
-    let g = a.grew in
+taken_falls flow counts fronts new work mid rest p growths more one e u =
+    let g = (taken-widened flow counts p fronts new mid rest growths more u).grew in
     let long : length work ≡ length mid + 1 = ap length e ∙ (omega arith) in
     let less = growths_outside flow fronts g.added new one g.grown in
     let h = falls (length flow.edges) (length g.added) (outside_count flow new) (outside_count flow fronts) (length rest) (length mid) (out_degrees flow g.added) less g.few (degrees-few flow g.added) in
@@ -119,6 +142,9 @@ refreshed flow counts first start begun fronts work rest growths steps e n r =
       admissible = r.admissible;
       stuck = λ a k p l out. r.stuck a k p l (ap (λ xs. is_in xs p) e);
       grown = r.grown;
+      count = r.count;
+      taken = subst (λ ps. AreTakenInTurn flow counts r.count first fronts start ps [] growths) (e ∙ sym n) r.taken;
+      steps = r.counted;
       bound = omega arith;
       each_taken = omega arith;
       none_waits = n;

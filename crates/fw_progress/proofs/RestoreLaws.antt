@@ -17,6 +17,8 @@ use Rattle.fw_flow.specs.Dataflow.{System, Dataflow, kind_of, receiver, out_edge
 use Rattle.fw_flow.specs.NodeFunction.{event_stamp, sent_by}
 use Rattle.fw_flow.specs.Projection.{events_at, all_inside, count_from}
 use Rattle.fw_model.specs.Covers.{stamp_of_notice}
+use Rattle.fw_model.specs.Alike.{StandForCauses}
+use Rattle.fw_model.proofs.AlikeLaws.{for-kept}
 use Rattle.fw_model.specs.EventStamps.{causes_of, causes_in, base_of_sent, tells_sent, AreStampsIf}
 use Rattle.fw_model.specs.History.{delivered_messages, sent_messages}
 use Rattle.fw_model.specs.Offers.{counted_on_edge, stamps_on}
@@ -151,7 +153,7 @@ told-others : (flow : Dataflow) (p : ℕ) (stamps : Stamps) (n : ℕ) (old new :
 told-others flow p stamps n old new c whole sys h e q k base t = record {
   delivered = λ d l r. subst (IsThinnedIf whole base (map (λ (m : Message). m.at) (delivered_messages h d))) (sym (c.delivered.others d (λ i. k (sym r ∙ ap (λ f. receiver f d) e ∙ i)))) (t.delivered d l r);
   notified = subst (IsThinnedIf whole base (flat_map (stamp_of_notice q) h)) (sym (c.notified.others q k)) t.notified;
-  sent = λ d l r s. subst (IsThinnedIf (whole && tells_sent sys.flow q) (base_of_sent sys.flow q base) (causes_in (sent_messages sys h d)))
+  sent = λ d l r s. subst (StandForCauses sys.flow q (whole && tells_sent sys.flow q) (base_of_sent sys.flow q base) (causes_in (sent_messages sys h d)))
       (sym (c.sent.others d (λ i. k (sym r ∙ ap (λ f. sender f d) e ∙ i)))) (t.sent d l r s);
   counted = λ s. subst (IsSentTally base (sent_by sys q (events_at sys.flow q h))) (sym (c.counted.others q k)) (t.counted s);
 }
@@ -168,8 +170,10 @@ told-restored flow p stamps n old new c = record {
     here whole sys h base t a is inside = record {
       delivered = λ d l r. same-thinned whole base (map (λ (m : Message). m.at) (delivered_messages h d)) (stamps_on d stamps.delivered) (delivered_on new d) (t.delivered.here d l r) (a.delivered d r);
       notified = same-thinned whole base (flat_map (stamp_of_notice p) h) stamps.notified (stamps_notified new p) t.notified.here a.notified;
-      sent = λ d l r s. same-thinned (whole && tells_sent sys.flow p) (base_of_sent sys.flow p base) (causes_in (sent_messages sys h d)) (causes_of (counted_on_edge d stamps.sent))
-          (stamps_where_sent new d) (t.sent.here d l r s) (a.sent s d l r).thinned;
+      sent = λ d l r s. for-kept sys.flow p (whole && tells_sent sys.flow p) (base_of_sent sys.flow p base) (causes_in (sent_messages sys h d))
+          (causes_of (counted_on_edge d stamps.sent)) (stamps_where_sent new d)
+          (λ all. same-thinned (whole && tells_sent sys.flow p) (base_of_sent sys.flow p base) all (causes_of (counted_on_edge d stamps.sent)) (stamps_where_sent new d) (t.sent.here d l r s))
+          (a.sent s d l r).thinned;
       counted = λ s f w.
           let tally = t.counted.here in
           let all = from-inside sys p f (events_at sys.flow p h) (each-weaker (λ v. base (event_stamp v) ≡ true) (λ v. f (event_stamp v) ≡ true) (events_at sys.flow p h) (λ v i. w (event_stamp v) i) inside) in

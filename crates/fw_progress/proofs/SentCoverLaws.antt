@@ -17,7 +17,7 @@ use Rattle.fw_flow.specs.declared.event.Message.{Message}
 use Rattle.fw_flow.specs.declared.kind.Policy.{Policy}
 use Rattle.fw_flow.specs.declared.kind.Policy.TheVariants as policy
 use Rattle.fw_flow.specs.declared.restoring.Restoring.TheVariants.{Anything}
-use Rattle.fw_flow.specs.Dataflow.{System, Dataflow, kind_of, policy_of, sender, receiver, bounds_of, bounds_of_edge, bounds_of_domain, greatest_number, is_input_kind, is_sequence_kind, node_frontier, HasEpochs}
+use Rattle.fw_flow.specs.Dataflow.{System, Dataflow, kind_of, policy_of, sender, receiver, bounds_of, bounds_of_edge, bounds_of_domain, greatest_number, is_input_kind, is_sequence_kind, is_of_numbers, out_domain_of_kind, node_frontier, HasEpochs}
 use Rattle.fw_flow.specs.NodeFunction.{sequence_sent, sent_by}
 use Rattle.fw_flow.specs.Projection.{events_at, all_inside, count_from}
 use Rattle.fw_flow.specs.Restoring.{can_resend, restoring_of_policy}
@@ -26,14 +26,17 @@ use Rattle.fw_model.specs.Covers.{stamps_from}
 use Rattle.fw_model.specs.Filtering.{AreFrontiers, kept_events, messages_from}
 use Rattle.fw_model.specs.History.{is_injection, injected_count, sent_messages, IsLegal}
 use Rattle.fw_model.specs.Sending.{SendsByCount}
-use Rattle.fw_model.specs.Thinned.{IsThinned, IsThinnedIf}
+use Rattle.fw_model.specs.Thinned.{IsThinned}
 use Rattle.fw_model.specs.Writes.{takes_checkpoints}
-use Rattle.fw_model.proofs.CarriedLaws.{carried-all}
+use Rattle.fw_model.specs.Carried.{carried}
+use Rattle.fw_model.proofs.CarriedLaws.{carried-numbered}
 use Rattle.fw_model.proofs.KindSorts.{is_sequence, keeps_something}
 use Rattle.fw_model.proofs.LegalLaws.{edge_domains, legal_events-in_domain, legal_messages-in_domain, only_inputs_inject}
 use Rattle.fw_model.proofs.LocalityLaws.{sent_by-same}
 use Rattle.fw_model.proofs.SequenceLaws.{no_inject, sent_by-sequence}
 use Rattle.fw_model.proofs.ThinnedLaws.{thinned-covers}
+use Rattle.fw_model.specs.Alike.{StandForCauses}
+use Rattle.fw_model.proofs.AlikeLaws.{kept-of_domain}
 use Rattle.fw_model.specs.EventStamps.{causes_in, tells_sent}
 use Rattle.fw_model.proofs.SentStandLaws.{sent-covers}
 use Rattle.fw_progress.specs.declared.traces.Traces.{Traces}
@@ -46,9 +49,14 @@ use Rattle.fw_progress.proofs.CutTraceLaws.{sent-domain, edge-domain}
 use Rattle.fw_progress.proofs.NumberLaws.{sequence-numbers, numbers-thinned}
 use Rattle.fw_progress.proofs.OfferLaws.{kept-send, messages-own, messages-on_edges, messages-inside, stands-for_sent}
 use Rattle.fw_progress.proofs.SentTallyLaws.{tally-count}
-use Rattle.fw_progress.proofs.TraceLaws.{among-domain, filter-domain, kept-domain}
+use Rattle.fw_progress.proofs.TraceLaws.{filter-domain, kept-domain}
 
 -- ---- sequences
+
+-- what a sequence sends is numbered, so that its out-edges carry all of it
+pub carried-sequence : (flow : Dataflow) → IsWellFormed flow → (e : ℕ) → is_sequence_kind (kind_of flow (sender flow e)) ≡ true → (ms : List Message) → carried flow e ms ≡ ms
+carried-sequence flow w e k ms =
+    carried-numbered flow e (ap is_of_numbers (sym (edge_domains flow w e) ∙ ap (out_domain_of_kind flow) (is_sequence (kind_of flow (sender flow e)) k))) ms
 
 pub none-kept : {X : Type 0} (test keep : X → Bool) (xs : List X) → how_many test xs ≡ 0 → how_many test (filter keep xs) ≡ 0
 none-kept test keep [] z = refl
@@ -153,7 +161,7 @@ pub sequence-covers : (sys : System) (h : List Event) (e : ℕ) (f : Front) (tra
 sequence-covers sys h e f traces w b l k counts t n is =
     let p = sender sys.flow e in
     let ms = sent_by sys p (events_at sys.flow p h) in
-    let all : sent_messages sys h e ≡ ms = carried-all sys.flow e ms in
+    let all : sent_messages sys h e ≡ ms = carried-sequence sys.flow w e k ms in
     let g = node_frontier sys.flow p f in
     let d = sent-domain sys h p (legal_events-in_domain sys h w b l p) in
     let count : n ≡ count_from g ms = is ∙ tally-count (bounds_of sys.flow p) t.base ms f (counted_of traces p) d t.within (t.trace.counted counts) in
@@ -177,12 +185,12 @@ stamps-cover sys h e f traces there w b l k told t =
     let g = node_frontier sys.flow p f in
     let all = causes_in (sent_messages sys h e) in
     let d = edge-domain sys h p e refl (legal_events-in_domain sys h w b l p) in
-    let thin : IsThinnedIf true t.base all kept = subst (λ c. IsThinnedIf c (cond c t.base (λ s. true)) all kept) told (t.trace.sent e there refl k) in
-    let send = kept-send sys h e kept k d thin.among in
+    let thin : StandForCauses sys.flow p true t.base all kept = subst (λ c. StandForCauses sys.flow p c (cond c t.base (λ s. true)) all kept) told (t.trace.sent e there refl k) in
+    let send = kept-send sys h e true t.base kept k d thin in
     let ms = counted_at_stamps sys.flow p kept e in
     let B = bounds_of sys.flow (receiver sys.flow e) in
     let left : map (λ (m : Counted). m.at) (filter (λ (m : Counted). all_inside g m.causes) ms) ≡ send_stamps sys.flow p (filter (inside f) kept) =
-    messages-inside sys.flow p kept e g ∙ ap (send_stamps sys.flow p) (sym (filter-domain (bounds_of sys.flow p) f kept (among-domain (bounds_of sys.flow p) all kept d thin.among))) in
+    messages-inside sys.flow p kept e g ∙ ap (send_stamps sys.flow p) (sym (filter-domain (bounds_of sys.flow p) f kept (kept-of_domain sys.flow p true t.base all kept thin d))) in
     record {
       in_the_domain = subst (AreOf B) left
           (each-map (λ s. in_domain B s ≡ true) (λ (m : Counted). m.at) (filter (λ (m : Counted). all_inside g m.causes) ms)

@@ -25,13 +25,14 @@ use Rattle.fw_flow.specs.Projection.{events_at, all_inside, count_from}
 use Rattle.fw_flow.specs.WellFormed.{IsWellFormed}
 use Rattle.fw_flow.proofs.OutEdgeLaws.{out_edges-from}
 use Rattle.fw_model.specs.Covers.{stamp_of_notice}
+use Rattle.fw_model.specs.Alike.{StandForCauses}
+use Rattle.fw_model.proofs.AlikeLaws.{for-cut}
 use Rattle.fw_model.specs.EventStamps.{causes_in, base_of_sent, tells_sent, StandForSent, StandForNumbered, AreStampsIf}
 use Rattle.fw_model.specs.Filtering.{events_inside, messages_inside, messages_from, kept_events}
 use Rattle.fw_model.specs.History.{is_injection, injected_count, delivered_messages, AreEventsInDomain, IsLegal, sent_messages}
 use Rattle.fw_model.specs.Offers.{AreAtEdgeStamps, counted_on_edge, stamps_on, stamps_on_from}
 use Rattle.fw_model.specs.Sending.{SendsByCount}
 use Rattle.fw_model.specs.Thinned.{IsThinned, IsThinnedIf}
-use Rattle.fw_model.proofs.CarriedLaws.{carried-all}
 use Rattle.fw_model.proofs.KindSorts.{is_sequence}
 use Rattle.fw_model.proofs.LegalLaws.{edge_domains, legal_events-in_domain}
 use Rattle.fw_model.proofs.LocalityLaws.{events_at-kept, sent_by-same, sends-same}
@@ -46,16 +47,16 @@ use Rattle.fw_progress.proofs.CutTraceLaws.{delivered-domain, notices-domain, se
 use Rattle.fw_progress.proofs.EventLaws.{how_often}
 use Rattle.fw_progress.proofs.NumberLaws.{IsNumber, sequence-numbers, numbers-thinned}
 use Rattle.fw_progress.proofs.OfferLaws.{Sends, each-joined, on-once, once-out, delivered-on, delivered-on_edges, kept-send, messages-on_edges, sent-on, stands-for_sent}
-use Rattle.fw_progress.proofs.SentCoverLaws.{counts-sequence, from-length, none-kept, no_injection}
+use Rattle.fw_progress.proofs.SentCoverLaws.{carried-sequence, counts-sequence, from-length, none-kept, no_injection}
 use Rattle.fw_progress.proofs.SentTallyLaws.{tally-count}
-use Rattle.fw_progress.proofs.TraceLaws.{among-domain, among-passed, kept-domain, thinned-inside, thinned-itself, untold-if}
+use Rattle.fw_progress.proofs.TraceLaws.{among-domain, among-passed, kept-domain, thinned-inside, thinned-itself, untold-if, sent-base, sent-within}
 
 -- Lists stand for the events of node p, thinned inside a base, as its traces do; of a sequence it is known how many messages it sent, if they are counted.
 record AreKept (whole : Bool) (sys : System) (h : List Event) (p : ℕ) (base : Frontier) (kept : ℕ → List Stamp) (notified : List Stamp) (sent : ℕ → List Stamp) (n : ℕ) : Type 0 where
   on_edges : (d : ℕ) → d < length sys.flow.edges → receiver sys.flow d ≡ p → IsThinnedIf whole base (map (λ (m : Message). m.at) (delivered_messages h d)) (kept d)
   notices : IsThinnedIf whole base (flat_map (stamp_of_notice p) h) notified
   sends : (e : ℕ) → e < length sys.flow.edges → sender sys.flow e ≡ p → is_sequence_kind (kind_of sys.flow p) ≡ false
-      → IsThinnedIf (whole && tells_sent sys.flow p) (base_of_sent sys.flow p base) (causes_in (sent_messages sys h e)) (sent e)
+      → StandForCauses sys.flow p (whole && tells_sent sys.flow p) (base_of_sent sys.flow p base) (causes_in (sent_messages sys h e)) (sent e)
   count : is_sequence_kind (kind_of sys.flow p) ≡ true → counts_sent sys.flow p ≡ true → n ≡ length (sent_by sys p (events_at sys.flow p h))
 
 -- The events of node p are of its domain, and it injects nothing if it is a sequence.
@@ -187,8 +188,11 @@ kept-stand whole sys h p base kept notified sent n w l proper k = record {
   where
     sends : is_sequence_kind (kind_of sys.flow p) ≡ false → (e : ℕ) → e < length sys.flow.edges → sender sys.flow e ≡ p → AllByRecursion (Sends sys.flow p) (sent e)
     sends s e i r =
-        subst (λ q. is_sequence_kind (kind_of sys.flow q) ≡ false → AreOf (bounds_of sys.flow q) (causes_in (sent_messages sys h e)) → AllByRecursion (Sends sys.flow q) (sent e)) r
-        (λ c d. kept-send sys h e (sent e) c d (k.sends e i r s).among) s (edge-domain sys h p e r proper.in_the_domain)
+        let told = whole && tells_sent sys.flow p in
+        let inside = base_of_sent sys.flow p base in
+        subst (λ q. is_sequence_kind (kind_of sys.flow q) ≡ false → AreOf (bounds_of sys.flow q) (causes_in (sent_messages sys h e))
+        → StandForCauses sys.flow q told inside (causes_in (sent_messages sys h e)) (sent e) → AllByRecursion (Sends sys.flow q) (sent e)) r
+        (kept-send sys h e told inside (sent e)) s (edge-domain sys h p e r proper.in_the_domain) (k.sends e i r s)
 
     numbers : (s : is_sequence_kind (kind_of sys.flow p) ≡ true) → counts_sent sys.flow p ≡ true → (e : ℕ) → sender sys.flow e ≡ p
         → IsThinned (everything (bounds_of sys.flow (receiver sys.flow e))) (map (λ (m : Message). m.at) (sent_by sys p (events_at sys.flow p h))) (last_number n)
@@ -224,7 +228,7 @@ kept-stand whole sys h p base kept notified sent n w l proper k = record {
         let left : stamps_on_from e (everything (bounds_of sys.flow p)) (all_sent sys.flow p sent n) ≡ last_number n =
         ap (stamps_on_from e (everything (bounds_of sys.flow p))) (all-sequence sys.flow p sent n true s c) ∙ numbered-on sys.flow p (everything (bounds_of sys.flow p)) first (last_number n) e i r in
         subst (λ ms. IsThinned B (map (λ (m : Message). m.at) ms) (stamps_on_from e (everything (bounds_of sys.flow (sender sys.flow e))) (all_sent sys.flow p sent n)))
-        (sym (carried-all sys.flow e (sent_by sys (sender sys.flow e) (events_at sys.flow (sender sys.flow e) h))))
+        (sym (carried-sequence sys.flow w e (ap (λ q. is_sequence_kind (kind_of sys.flow q)) r ∙ s) (sent_by sys (sender sys.flow e) (events_at sys.flow (sender sys.flow e) h))))
         (subst (λ q. IsThinned B (map (λ (m : Message). m.at) (sent_by sys q (events_at sys.flow q h))) (stamps_on_from e (everything (bounds_of sys.flow q)) (all_sent sys.flow p sent n))) (sym r)
         (subst (IsThinned B (map (λ (m : Message). m.at) (sent_by sys p (events_at sys.flow p h)))) (sym left) (numbers s c e r)))
 
@@ -363,10 +367,11 @@ inside-kept sys h p f traces w b l t = record {
       (subst (λ q. AreEventsInDomain sys.flow h q → AreOf (bounds_of sys.flow q) all) r (delivered-domain sys h d) a) t.within (t.trace.delivered d i r));
   notices = subst (λ ss. IsThinnedIf true g ss (thinned f (filter (inside f) (stamps_notified traces p)))) (sym (notices-inside p g h))
       (whole-inside (bounds_of sys.flow p) t.base (flat_map (stamp_of_notice p) h) (stamps_notified traces p) f (notices-domain sys h p a) t.within t.trace.notified);
-  sends = λ e i r s. subst (λ ss. IsThinnedIf (tells_sent sys.flow p) (base_of_sent sys.flow p g) ss (thinned f (filter (inside f) (stamps_where_sent traces e))))
+  sends = λ e i r s. subst (λ ss. StandForCauses sys.flow p (tells_sent sys.flow p) (base_of_sent sys.flow p g) ss (thinned f (filter (inside f) (stamps_where_sent traces e))))
       (sym (ap causes_in (edge-inside sys h p f w b l e r) ∙ causes-from g (sent_messages sys h e) (edge-one_cause sys h e)))
-      (sent_whole-inside (tells_sent sys.flow p) (bounds_of sys.flow p) t.base (causes_in (sent_messages sys h e)) (stamps_where_sent traces e) f (edge-domain sys h p e r a) t.within
-      (t.trace.sent e i r s));
+      (for-cut sys.flow p (tells_sent sys.flow p) (base_of_sent sys.flow p t.base) (base_of_sent sys.flow p g) g (causes_in (sent_messages sys h e)) (stamps_where_sent traces e)
+      (thinned f (filter (inside f) (stamps_where_sent traces e))) (λ j. sent-within sys.flow p t.base g t.within) (sent-base true sys.flow p t.base g t.within) (edge-domain sys h p e r a)
+      (λ all of. sent_whole-inside (tells_sent sys.flow p) (bounds_of sys.flow p) t.base all (stamps_where_sent traces e) f of t.within) (t.trace.sent e i r s));
   count = λ s c.
       tally-count (bounds_of sys.flow p) t.base ms f (counted_of traces p) (sent-domain sys h p a) t.within (t.trace.counted c)
       ∙ sym (ap length (sent-inside sys h p f w b l) ∙ from-length g ms);

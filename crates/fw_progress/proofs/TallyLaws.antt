@@ -1,6 +1,6 @@
 -- Tallies: what one more and one less of a stamp leave, and up to where there is none.
-use Rattle.std.proofs.Common.{◌≡◌, ℕ, ◌+◌, ◌-◌, ◌^◌, ◌<◌, ◌≤◌, Bool, true, false, not, ◌&&◌, nat_le, nat_lt, cond, drop, List, [], ◌∷◌, ◌++◌, length, get_or, take, Option, Some, None, unwrap_or, refl, sym, ap, subst, ◌∙◌, inl, inr, arith}
-use Rattle.std.specs.Prelude.{IsSome, slice_get}
+use Rattle.std.proofs.Common.{◌≡◌, ℕ, ◌+◌, ◌-◌, ◌^◌, ◌<◌, ◌≤◌, Bool, true, false, not, ◌&&◌, nat_le, nat_lt, cond, drop, List, [], ◌∷◌, ◌++◌, length, get_or, take, Option, Some, None, map, unwrap_or, refl, sym, ap, subst, ◌∙◌, append-nil, inl, inr, arith}
+use Rattle.std.specs.Prelude.{IsSome, filter, slice_get}
 use Rattle.std.specs.List.{AllByRecursion}
 use Rattle.std.specs.Map.{keys_of, lookup, set_value, remove_entry}
 use Rattle.std.specs.BTreeMap.{insert_entry, is_at}
@@ -24,8 +24,12 @@ use Rattle.fw_time.proofs.StampLaws.{leq-trans, same-is, same-refl}
 use Rattle.fw_time.proofs.DomainLaws.{domain-length}
 use Rattle.fw_frontier.specs.Frontier.{Frontier}
 use Rattle.fw_frontier.specs.Front.{Front, inside, frontier_of, IsFrontOf}
+use Rattle.fw_bag.specs.declared.rec.Rec.{Rec}
 use Rattle.fw_flow.specs.Counting.{how_many}
+use Rattle.fw_flow.specs.declared.key_part.KeyPart.{KeyPart}
+use Rattle.fw_flow.specs.KeyParts.{is_of_part_if}
 use Rattle.fw_model.proofs.CmpLaws.{stamp_cmp-equal, stamp_total}
+use Rattle.fw_progress.specs.Progress.{stamps_of_part}
 use Rattle.fw_progress.specs.Tally.{times_in, has_one, count_inside, AreCountsPositive, IsTallyOf, HasOneMore, HasManyMore, HasOneLess, HasNoMore, HasEachMore, AreLowest}
 
 abbrev Entries : Type 0
@@ -169,25 +173,57 @@ same-flip s t = swap (leq s t) (leq t s)
     swap false true = refl
     swap false false = refl
 
-pub each_more : (stamps : List Stamp) (i : ℕ) (x : Stamp) (old mid new : Entries) → i < length stamps → x ≡ get_or stamps i x
-    → HasEachMore (take i stamps) old mid → HasOneMore x mid new → HasEachMore (take (i + 1) stamps) old new
-each_more stamps i x old mid new l is each one =
-    let more : take (i + 1) stamps ≡ take i stamps ++ x ∷ [] = take_more stamps i x l ∙ ap (λ y. take i stamps ++ y ∷ []) (sym is) in
-    record {
-      times = λ t.
-          let a = each.times t in
-          let b = one.times t in
-          let c = ap (how_many (same t)) more ∙ how_many-last (same t) (take i stamps) x ∙ ap (λ k. how_many (same t) (take i stamps) + cond k 1 0) (same-flip t x) in
-          by (same x t) (times_in t new) (times_in t mid) (times_in t old) (how_many (same t) (take (i + 1) stamps)) (how_many (same t) (take i stamps)) a b c;
-      domain = λ b a d.
-          let P : Stamp → Type 0 = λ s. in_domain b s ≡ true in
-          let all = subst (AllByRecursion P) more d in
-          one.domain b (each.domain b a (each-prefix P (take i stamps) (x ∷ []) all)) (each-suffix P (take i stamps) (x ∷ []) all).0;
-    }
+each_last : (stamps : List Stamp) (x : Stamp) (old mid new : Entries) → HasEachMore stamps old mid → HasOneMore x mid new → HasEachMore (stamps ++ x ∷ []) old new
+each_last stamps x old mid new each one = record {
+  times = λ t.
+      let a = each.times t in
+      let b = one.times t in
+      let c = how_many-last (same t) stamps x ∙ ap (λ k. how_many (same t) stamps + cond k 1 0) (same-flip t x) in
+      by (same x t) (times_in t new) (times_in t mid) (times_in t old) (how_many (same t) (stamps ++ x ∷ [])) (how_many (same t) stamps) a b c;
+  domain = λ b a d.
+      let P : Stamp → Type 0 = λ s. in_domain b s ≡ true in
+      one.domain b (each.domain b a (each-prefix P stamps (x ∷ []) d)) (each-suffix P stamps (x ∷ []) d).0;
+}
   where
     by : (k : Bool) (n m o h g : ℕ) → m ≡ o + g → n ≡ cond k (m + 1) m → h ≡ g + cond k 1 0 → n ≡ o + h
     by true n m o h g a b c = omega (arith, a, b, c)
     by false n m o h g a b c = omega (arith, a, b, c)
+
+stamps-last : (part : Option KeyPart) (sent : List (Stamp × Rec)) (x : Stamp × Rec)
+    → stamps_of_part part (sent ++ x ∷ []) ≡ stamps_of_part part sent ++ cond (is_of_part_if part x.1.key) (x.0 ∷ []) []
+stamps-last part [] x = by (is_of_part_if part x.1.key)
+  where
+    by : (b : Bool) → map (λ (s : Stamp × Rec). s.0) (cond b (x ∷ []) []) ≡ cond b (x.0 ∷ []) []
+    by true = refl
+    by false = refl
+stamps-last part (y ∷ ys) x = by (is_of_part_if part y.1.key) (stamps-last part ys x)
+  where
+    of : List (Stamp × Rec) → List (Stamp × Rec)
+    of sent = filter (λ (s : Stamp × Rec). is_of_part_if part s.1.key) sent
+
+    by : (b : Bool) → stamps_of_part part (ys ++ x ∷ []) ≡ stamps_of_part part ys ++ cond (is_of_part_if part x.1.key) (x.0 ∷ []) []
+        → map (λ (s : Stamp × Rec). s.0) (cond b (y ∷ of (ys ++ x ∷ [])) (of (ys ++ x ∷ [])))
+        ≡ map (λ (s : Stamp × Rec). s.0) (cond b (y ∷ of ys) (of ys)) ++ cond (is_of_part_if part x.1.key) (x.0 ∷ []) []
+    by true h = ap (λ ss. y.0 ∷ ss) h
+    by false h = h
+
+stamps-taken : (part : Option KeyPart) (sent : List (Stamp × Rec)) (i : ℕ) (x : Stamp × Rec) → i < length sent → x ≡ get_or sent i x
+    → stamps_of_part part (take (i + 1) sent) ≡ stamps_of_part part (take i sent) ++ cond (is_of_part_if part x.1.key) (x.0 ∷ []) []
+stamps-taken part sent i x l is =
+    ap (stamps_of_part part) (take_more sent i x l ∙ ap (λ y. take i sent ++ y ∷ []) (sym is)) ∙ stamps-last part (take i sent) x
+
+-- one more is counted for the next of the recs, if its key is of the part
+pub each_more : (part : Option KeyPart) (sent : List (Stamp × Rec)) (i : ℕ) (x : Stamp × Rec) (old mid new : Entries) → i < length sent → x ≡ get_or sent i x
+    → is_of_part_if part x.1.key ≡ true → HasEachMore (stamps_of_part part (take i sent)) old mid → HasOneMore x.0 mid new → HasEachMore (stamps_of_part part (take (i + 1) sent)) old new
+each_more part sent i x old mid new l is k each one =
+    subst (λ ss. HasEachMore ss old new) (sym (stamps-taken part sent i x l is ∙ ap (λ b. stamps_of_part part (take i sent) ++ cond b (x.0 ∷ []) []) k))
+    (each_last (stamps_of_part part (take i sent)) x.0 old mid new each one)
+
+pub each_same : (part : Option KeyPart) (sent : List (Stamp × Rec)) (i : ℕ) (x : Stamp × Rec) (old new : Entries) → i < length sent → x ≡ get_or sent i x
+    → is_of_part_if part x.1.key ≡ false → HasEachMore (stamps_of_part part (take i sent)) old new → HasEachMore (stamps_of_part part (take (i + 1) sent)) old new
+each_same part sent i x old new l is k each =
+    subst (λ ss. HasEachMore ss old new)
+    (sym (stamps-taken part sent i x l is ∙ ap (λ b. stamps_of_part part (take i sent) ++ cond b (x.0 ∷ []) []) k ∙ append-nil (stamps_of_part part (take i sent)))) each
 
 -- ---- up to where there is none
 

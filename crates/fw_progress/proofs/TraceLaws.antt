@@ -406,6 +406,18 @@ left-inside bounds f old new d k =
     each-weaker (λ t. false ≡ false → Contains new t) (Contains new) (filter (frontier_of bounds f) old) (λ t c. c refl)
     (k bounds (λ t. false) old d (λ t i. absurd (cc)) (thinned-itself (λ t. false) old)).outside
 
+-- the base of where a node sent lies within a larger one's
+pub sent-within : (flow : Dataflow) (p : ℕ) (base wide : Frontier) → Within base wide → Within (base_of_sent flow p base) (base_of_sent flow p wide)
+sent-within flow p base wide w = by (tells_sent flow p)
+  where
+    by : (told : Bool) → Within (cond told base (λ t. true)) (cond told wide (λ t. true))
+    by true = w
+    by false = λ t i. i
+
+-- and where it is told, within what holds the base
+pub sent-base : (whole : Bool) (flow : Dataflow) (p : ℕ) (base f : Frontier) → Within base f → (whole && tells_sent flow p) ≡ true → Within (base_of_sent flow p base) f
+sent-base whole flow p base f w k = subst (λ (told : Bool). Within (cond told base (λ t. true)) f) (sym (and_parts whole (tells_sent flow p) k).1) w
+
 -- where it sent, of a node that settles
 pub sent_settled-if : (whole : Bool) (flow : Dataflow) (p : ℕ) (bounds : Bounds) (f : Front) (old new : List Stamp) → IsSettledTo f old new → (base : Frontier) (all : List Stamp)
     → AreOf bounds all → Within base (frontier_of bounds f) → IsThinnedIf (whole && tells_sent flow p) (base_of_sent flow p base) all old

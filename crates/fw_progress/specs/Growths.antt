@@ -7,7 +7,7 @@ use Rattle.fw_flow.specs.Dataflow.{Dataflow, receiver, out_edges, node_frontier}
 use Rattle.fw_model.specs.Machine.{family_of, AreCanonical}
 use Rattle.fw_progress.specs.declared.counts.Counts.{Counts}
 use Rattle.fw_progress.specs.declared.growth.Growth.{Growth}
-use Rattle.fw_progress.specs.Counts.{target_by, IsAdmissibleBy, IsStuckBy, is_in, AreStuckOutside, AreNodes}
+use Rattle.fw_progress.specs.Counts.{target_by, IsAdmissibleBy, IsStuckBy, is_in, AreNodes}
 
 -- a front names more than the node has so far
 pub record IsMore (flow : Dataflow) (fronts : List Front) (p : ℕ) (front : Front) : Type 0 where
@@ -67,22 +67,8 @@ pub record HaveGrown (flow : Dataflow) (counts : Counts) (old new : List Front) 
   pub stays : (q : ℕ) → is_in work q ≡ true → is_in rest q ≡ true
   pub leaves : (q : ℕ) → q < length flow.nodes → is_in rest q ≡ false → IsStuckBy flow counts old q → IsStuckBy flow counts new q
 
--- a node was taken up: frontiers grew, and unless it waits again it has the largest that it can have
-pub record IsTakenUp (flow : Dataflow) (counts : Counts) (p : ℕ) (old new : List Front) (work rest : List ℕ) (growths more : List Growth) : Type 0 where
+-- a node was widened: frontiers grew, and unless it waits again it has the largest that it can have
+pub record IsWidened (flow : Dataflow) (counts : Counts) (p : ℕ) (old new : List Front) (work rest : List ℕ) (growths more : List Growth) : Type 0 where
   pub grew : HaveGrown flow counts old new work rest growths more
   pub admissible : IsAdmissibleBy flow counts (family_of flow old) → IsAdmissibleBy flow counts (family_of flow new)
   pub stuck : IsAdmissibleBy flow counts (family_of flow old) → is_in rest p ≡ false → IsStuckBy flow counts new p
-
--- What a refresh leaves: an admissible family in which no node can be widened, the growths up to it, and no node that waits; it
--- takes a step for each node that waited, and no more than those and one for each edge from a node that grew. Where no node
--- waited, the family stays.
-pub record IsRefreshed (flow : Dataflow) (counts : Counts) (old new : List Front) (work rest : List ℕ) (growths : List Growth) (before after : ℕ) : Type 0 where
-  pub one_each : length new ≡ length flow.nodes
-  pub canonical : AreCanonical flow new
-  pub admissible : IsAdmissibleBy flow counts (family_of flow old) → IsAdmissibleBy flow counts (family_of flow new)
-  pub stuck : IsAdmissibleBy flow counts (family_of flow old) → AreStuckOutside flow counts old work → AreStuckOutside flow counts new []
-  pub grown : AreGrowths flow old growths new
-  pub bound : after ≤ before + length work + out_degrees flow growths
-  pub each_taken : before + length work ≤ after
-  pub none_waits : rest ≡ []
-  pub still : work ≡ [] → new ≡ old

@@ -1,7 +1,8 @@
 -- When progress stands for a history.
-use Rattle.std.specs.Prelude.{◌≡◌, ℕ, ◌<◌, true, false, List, ◌∷◌, [], length, map}
+use Rattle.std.specs.Prelude.{◌≡◌, ℕ, ◌<◌, Bool, true, false, List, ◌∷◌, [], length, map}
 use Rattle.std.specs.List.{AllByRecursion}
 use Rattle.fw_time.specs.Stamp.{Stamp, same}
+use Rattle.fw_bag.specs.declared.rec.Rec.{Rec}
 use Rattle.fw_frontier.specs.Front.{Front}
 use Rattle.fw_flow.specs.Counting.{how_many}
 use Rattle.fw_flow.specs.declared.event.Event.{Event}
@@ -47,15 +48,19 @@ pub record StandsForHistory (sys : System) (h : List Event) (now : Standing) : T
   pub counts : IsCountOf sys h now.counts
   pub kept : AreKeptAdmissible sys h now.kept now.work
 
--- the stamps at which an event makes its node send, one for each message
-abbrev pub stamps_sent : System → List Event → Event → List Stamp
-stamps_sent sys h v = map (λ (m : Message). m.at) (sends sys (event_node sys.flow v) (events_at sys.flow (event_node sys.flow v) h) v)
+-- the recs that an event makes its node send, with their stamps
+abbrev pub recs_sent : System → List Event → Event → List (Stamp × Rec)
+recs_sent sys h v = map (λ (m : Message). (m.at, m.rec)) (sends sys (event_node sys.flow v) (events_at sys.flow (event_node sys.flow v) h) v)
 
--- progress follows an event at which its node sends at these stamps: it stands for the history that goes on with the event, where it
+-- the lists have the same recs at the same stamps, in whatever order
+abbrev pub AreSameRecs : List (Stamp × Rec) → List (Stamp × Rec) → Type 0
+AreSameRecs xs ys = (test : Stamp × Rec → Bool) → how_many test xs ≡ how_many test ys
+
+-- progress follows an event at which its node sends these recs: it stands for the history that goes on with the event, where it
 -- stood for that before
-abbrev pub FollowsEvent : Dataflow → Event → List Stamp → Standing → Standing → Type 0
+abbrev pub FollowsEvent : Dataflow → Event → List (Stamp × Rec) → Standing → Standing → Type 0
 FollowsEvent flow v sent old new =
-    (sys : System) (h : List Event) → sys.flow ≡ flow → HasEpochs sys → IsLegal sys (v ∷ h) → stamps_sent sys h v ≡ sent
+    (sys : System) (h : List Event) → sys.flow ≡ flow → HasEpochs sys → IsLegal sys (v ∷ h) → AreSameRecs (recs_sent sys h v) sent
     → StandsForHistory sys h old → StandsForHistory sys (v ∷ h) new
 
 -- Nothing is counted or settled anew, the kept frontiers only grew, and stay where no node waited, no node waits, and the kept

@@ -67,12 +67,10 @@ pub record ToldIsKnown : Type 0 where
   pub notified : (q : ℕ) (t : Stamp) (old new : Traces) → HasNotifiedMore q t old new → (sys : System) (p : ℕ)
       → ((h : List Event) → (q ≡ p → Contains (flat_map (stamp_of_notice p) h) t) → IsTraceAmong sys h p old → IsTraceAmong sys h p new)
       × ((these : List Event) (base : Frontier) → HasTraceOutside sys.flow these p base old → HasTraceOutside sys.flow (Notify q t ∷ these) p base new)
-  pub sent : (flow : Dataflow) (q : ℕ) (t : Stamp) (old new : Traces) → HasSentMore flow q t old new → (sys : System) (p : ℕ) → sys.flow ≡ flow
-      → ((h : List Event) → ((e : ℕ) → e < length sys.flow.edges → sender sys.flow e ≡ q → Contains (causes_in (sent_messages sys h e)) t)
-      → IsTraceAmong sys h p old → IsTraceAmong sys h p new)
+  pub sent : (e : ℕ) (t : Stamp) (old new : Traces) → HasSentMore e t old new → (sys : System) (p : ℕ)
+      → ((h : List Event) → (sender sys.flow e ≡ p → Contains (causes_in (sent_messages sys h e)) t) → IsTraceAmong sys h p old → IsTraceAmong sys h p new)
       × ((these : List Event) (base : Frontier) → HasTraceOutside sys.flow these p base old → HasTraceOutside sys.flow these p base new)
-      × ((e : ℕ) → e < length flow.edges → sender flow e ≡ q → (stamps : List Stamp) (base : Frontier)
-      → HasOutside base stamps (stamps_where_sent old e) → HasOutside base (t ∷ stamps) (stamps_where_sent new e))
+      × ((stamps : List Stamp) (base : Frontier) → HasOutside base stamps (stamps_where_sent old e) → HasOutside base (t ∷ stamps) (stamps_where_sent new e))
   pub passes : (flow : Dataflow) (v : Event) (these : List Event) (p : ℕ) (base : Frontier) (traces : Traces)
       → (event_node flow v ≡ p → base (event_stamp v) ≡ true) → HasTraceOutside flow these p base traces → HasTraceOutside flow (v ∷ these) p base traces
 

@@ -131,7 +131,7 @@ pub record AreProposed (flow : Dataflow) (counts : Counts) (marks : List Bool) (
   pub few : passes < length flow.nodes
   pub left : AreLeftBy flow counts marks passes old next
 
--- no frontiers are proposed: as many passes as there are nodes did not suffice
+-- no frontiers are proposed: as many passes as there are nodes were needed, or did not suffice
 pub record AreNoneProposed (flow : Dataflow) (counts : Counts) (marks : List Bool) (old : List Front) : Type 0 where
   pub last : List Front
   pub left : AreLeftBy flow counts marks (length flow.nodes) old last

@@ -8,6 +8,7 @@ pub mod Laws
 pub mod Leap
 pub mod Notices
 pub mod Progress
+pub mod Refresh
 pub mod SentTally
 pub mod Settle
 pub mod StampData

@@ -2,6 +2,7 @@
 use Rattle.std.specs.Prelude.{◌&&◌, ◌≡◌, ◌≢◌, ℕ, ◌<◌, Bool, true, false, List, [], ◌∷◌, ◌++◌, length, map, slice_index_or}
 use Rattle.std.specs.List.{AllByRecursion, Contains, flat_map}
 use Rattle.fw_time.specs.Stamp.{Stamp}
+use Rattle.fw_bag.specs.declared.rec.Rec.{Rec}
 use Rattle.fw_frontier.specs.Frontier.{Frontier, Within}
 use Rattle.fw_frontier.specs.Front.{Front}
 use Rattle.fw_flow.specs.declared.choice.Stamps.{Stamps}
@@ -11,6 +12,7 @@ use Rattle.fw_flow.specs.Dataflow.{System, Dataflow, kind_of, policy_of, sender,
 use Rattle.fw_flow.specs.NodeFunction.{event_stamp, sent_by}
 use Rattle.fw_flow.specs.Projection.{events_at}
 use Rattle.fw_model.specs.Covers.{stamp_of_notice}
+use Rattle.fw_model.specs.Alike.{StandForCauses}
 use Rattle.fw_model.specs.EventStamps.{causes_in, base_of_sent, tells_sent, AreStampsIf}
 use Rattle.fw_model.specs.Filtering.{AreFrontiers, kept_events}
 use Rattle.fw_model.specs.History.{delivered_messages, sent_messages, AreEventsInDomain, IsLegal}
@@ -18,10 +20,10 @@ use Rattle.fw_model.specs.Thinned.{IsThinned, IsThinnedIf}
 use Rattle.fw_model.specs.Writes.{takes_checkpoints}
 use Rattle.fw_progress.specs.declared.sent_tally.SentTally.{SentTally}
 use Rattle.fw_progress.specs.declared.traces.Traces.{Traces}
-use Rattle.fw_progress.specs.History.{stamps_sent}
-use Rattle.fw_progress.specs.Progress.{ChangesAt}
+use Rattle.fw_progress.specs.History.{AreSameRecs, recs_sent}
+use Rattle.fw_progress.specs.Progress.{ChangesAt, stamps_on}
 use Rattle.fw_progress.specs.SentTally.{IsSentTally, CountsMore, IsCountedInAll, IsTallyCutTo}
-use Rattle.fw_progress.specs.Traces.{ChangesInto, ChangesOut, HasAdded, IsThinnedBy, StandsInside}
+use Rattle.fw_progress.specs.Traces.{ChangesInto, ChangesOut, ChangesEachOut, HasAdded, IsThinnedBy, StandsInside}
 
 -- the stamps that are kept of what was delivered on an edge
 abbrev pub delivered_on : Traces → ℕ → List Stamp
@@ -66,7 +68,7 @@ pub record IsTraceIf (whole : Bool) (sys : System) (h : List Event) (p : ℕ) (b
       → IsThinnedIf whole base (map (λ (m : Message). m.at) (delivered_messages h d)) (delivered_on traces d)
   pub notified : IsThinnedIf whole base (flat_map (stamp_of_notice p) h) (stamps_notified traces p)
   pub sent : (e : ℕ) → e < length sys.flow.edges → sender sys.flow e ≡ p → is_sequence_kind (kind_of sys.flow p) ≡ false
-      → IsThinnedIf (whole && tells_sent sys.flow p) (base_of_sent sys.flow p base) (causes_in (sent_messages sys h e)) (stamps_where_sent traces e)
+      → StandForCauses sys.flow p (whole && tells_sent sys.flow p) (base_of_sent sys.flow p base) (causes_in (sent_messages sys h e)) (stamps_where_sent traces e)
   pub counted : counts_sent sys.flow p ≡ true → IsSentTally base (sent_by sys p (events_at sys.flow p h)) (counted_of traces p)
 
 -- the same, where the whole is asked of a node that takes checkpoints
@@ -113,11 +115,11 @@ pub record KeepsLists (flow : Dataflow) (p : ℕ) (old new : Traces) : Type 0 wh
   pub notified : stamps_notified new p ≡ stamps_notified old p
   pub sent : (e : ℕ) → sender flow e ≡ p → stamps_where_sent new e ≡ stamps_where_sent old e
 
--- traces follow an event at which its node sends at these stamps: they are those of the history that goes on with the event, where
+-- traces follow an event at which its node sends these recs: they are those of the history that goes on with the event, where
 -- they were those of the history before
-abbrev pub TracesFollow : Dataflow → Event → List Stamp → Traces → Traces → Type 0
+abbrev pub TracesFollow : Dataflow → Event → List (Stamp × Rec) → Traces → Traces → Type 0
 TracesFollow flow v sent old new =
-    (whole : Bool) (sys : System) (h : List Event) → sys.flow ≡ flow → stamps_sent sys h v ≡ sent → (p : ℕ) (base : Frontier)
+    (whole : Bool) (sys : System) (h : List Event) → sys.flow ≡ flow → AreSameRecs (recs_sent sys h v) sent → (p : ℕ) (base : Frontier)
     → IsTraceIf whole sys h p base old → IsTraceIf whole sys (v ∷ h) p base new
 
 -- The lists of node p are changed so, and those of the others are as they were.
@@ -173,11 +175,11 @@ pub record HasNotifiedMore (p : ℕ) (at : Stamp) (old new : Traces) : Type 0 wh
   pub sent : new.sent.items ≡ old.sent.items
   pub counted : new.counted.items ≡ old.counted.items
 
--- One stamp more is kept of those at which node p sent, on each of its out-edges.
-pub record HasSentMore (flow : Dataflow) (p : ℕ) (at : Stamp) (old new : Traces) : Type 0 where
+-- One stamp more is kept of those at which something was sent on edge e.
+pub record HasSentMore (e : ℕ) (at : Stamp) (old new : Traces) : Type 0 where
   pub delivered : new.delivered.items ≡ old.delivered.items
   pub notified : new.notified.items ≡ old.notified.items
-  pub sent : ChangesOut flow p (HasAdded at) old.sent.items new.sent.items
+  pub sent : ChangesAt e [] (HasAdded at) old.sent.items new.sent.items
   pub counted : new.counted.items ≡ old.counted.items
 
 -- ---- for the proofs
@@ -196,7 +198,7 @@ SentMore flow p at count old new = is_sequence_kind (kind_of flow p) ≡ false �
 abbrev pub CountedMore : Dataflow → ℕ → Stamp → ℕ → SentTally → SentTally → Type 0
 CountedMore flow p at count old new = counts_sent flow p ≡ true → CountsMore at count old new
 
--- An event of node p at a stamp sends so many messages, on each of its out-edges.
-pub record HasSent (flow : Dataflow) (p : ℕ) (at : Stamp) (count : ℕ) (old new : Traces) : Type 0 where
-  pub sent : ChangesOut flow p (SentMore flow p at count) old.sent.items new.sent.items
-  pub counted : ChangesAt p no_tally (CountedMore flow p at count) old.counted.items new.counted.items
+-- An event of node p at a stamp sends these recs: on each of its out-edges those that the edge carries.
+pub record HasSent (flow : Dataflow) (p : ℕ) (at : Stamp) (recs : List (Stamp × Rec)) (old new : Traces) : Type 0 where
+  pub sent : ChangesEachOut flow p (λ e. SentMore flow p at (length (stamps_on flow e recs))) old.sent.items new.sent.items
+  pub counted : ChangesAt p no_tally (CountedMore flow p at (length recs)) old.counted.items new.counted.items

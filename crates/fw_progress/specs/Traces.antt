@@ -57,11 +57,15 @@ pub record ChangesInto (flow : Dataflow) (p : ℕ) (R : List Stamp → List Stam
   pub here : (d : ℕ) → d < length flow.edges → receiver flow d ≡ p → R (slice_index_or old d []) (slice_index_or new d [])
   pub others : (d : ℕ) → receiver flow d ≢ p → slice_index_or new d [] ≡ slice_index_or old d []
 
--- the lists of a node's out-edges are changed so, and those of the other edges are as they were
-pub record ChangesOut (flow : Dataflow) (p : ℕ) (R : List Stamp → List Stamp → Type 0) (old new : List (List Stamp)) : Type 0 where
+-- the list of each out-edge of a node is changed as it is for this edge, and those of the other edges are as they were
+pub record ChangesEachOut (flow : Dataflow) (p : ℕ) (R : ℕ → List Stamp → List Stamp → Type 0) (old new : List (List Stamp)) : Type 0 where
   pub one_each : length new ≡ length old
-  pub here : (e : ℕ) → e < length flow.edges → sender flow e ≡ p → R (slice_index_or old e []) (slice_index_or new e [])
+  pub here : (e : ℕ) → e < length flow.edges → sender flow e ≡ p → R e (slice_index_or old e []) (slice_index_or new e [])
   pub others : (e : ℕ) → sender flow e ≢ p → slice_index_or new e [] ≡ slice_index_or old e []
+
+-- the lists of a node's out-edges are changed so, and those of the other edges are as they were
+abbrev pub ChangesOut : Dataflow → ℕ → (List Stamp → List Stamp → Type 0) → List (List Stamp) → List (List Stamp) → Type 0
+ChangesOut flow p R old new = ChangesEachOut flow p (λ e. R) old new
 
 -- ---- for the proofs
 

@@ -4,13 +4,14 @@ ghost use Rattle.std.specs.List.{AllByRecursion};
 ghost use Rattle.fw_time.specs.Stamp.{in_domain};
 ghost use Rattle.fw_flow.specs.Dataflow.{receiver, bounds_of};
 ghost use Rattle.fw_progress.specs.Counts.{AreCounts};
-ghost use Rattle.fw_progress.specs.Progress.{ChangesAt, CanSend, ArePendingMore, IsOneBatchMore, IsSentMore, DeliversOne, IsNotified, IsInjected};
+ghost use Rattle.fw_progress.specs.Progress.{ChangesAt, CanSend, stamps_of_part, stamps_on, ArePendingMore, IsOneBatchMore, IsSentMore, DeliversOne, IsNotified, IsInjected};
 ghost use Rattle.fw_progress.specs.Tally.{HasOneMore, HasOneLess, HasNoMore, HasEachMore};
 
 use crate::counts::Counts;
 use crate::tally::Tally;
+use fw_bag::Rec;
 use fw_flow::laws::flow_is_well_formed;
-use fw_flow::{EdgeId, Flow, NodeId, SentTable};
+use fw_flow::{EdgeId, Flow, KeyPart, NodeId, SentTable, is_of_part};
 use fw_time::{Bounds, Stamp};
 use std::alloc::AllocError;
 
@@ -68,23 +69,35 @@ pub(crate) fn count_sent(
     Ok(())
 }
 
-/// A message at each of the stamps is pending more. The error is want of memory.
-fn add_each(tally: &mut Tally, stamps: &[Stamp]) -> Result<(), AllocError>
-    ensures { IfOk result (λ u. HasEachMore stamps.now tally.old tally.new) }
+/// A message more is pending for each of the recs whose key is of the part, where there is one. The error is want of memory.
+fn add_each(
+    tally: &mut Tally,
+    part: Option<KeyPart>,
+    sent: &[(Stamp, Rec)],
+) -> Result<(), AllocError>
+    ensures { IfOk result (λ u. HasEachMore (stamps_of_part part sent.now) tally.old tally.new) }
 {
-    for stamp in stamps {
-        tally.add(stamp)?;
+    for one in sent {
+        if is_of_part(part, one.1.key) {
+            tally.add(&one.0)?;
+        }
     }
     Ok(())
 }
 
-/// The same on an edge.
-fn add_on_edge(pending: &mut Vec<Tally>, edge: EdgeId, stamps: &[Stamp]) -> Result<(), AllocError>
+/// A message more is pending on an edge for each of the recs that it carries. The error is want of memory.
+fn add_on_edge(
+    flow: &Flow,
+    pending: &mut Vec<Tally>,
+    edge: EdgeId,
+    sent: &[(Stamp, Rec)],
+) -> Result<(), AllocError>
     requires { edge < length pending.old.items }
-    ensures { IfOk result (λ u. ChangesAt edge [] (HasEachMore stamps.now) pending.old.items pending.new.items) }
+    ensures { IfOk result (λ u. ChangesAt edge [] (HasEachMore (stamps_on flow.now edge sent.now)) pending.old.items pending.new.items) }
 {
+    let part = flow.part(flow.dst(edge));
     let tally = &mut pending[edge.place() as usize];
-    add_each(tally, stamps)?;
+    add_each(tally, part, sent)?;
     Ok(())
 }
 
@@ -93,25 +106,25 @@ pub(crate) fn send(
     flow: &Flow,
     pending: &mut Vec<Tally>,
     node: NodeId,
-    stamps: &[Stamp],
+    sent: &[(Stamp, Rec)],
 ) -> Result<(), AllocError>
     requires { length pending.old.items ≡ length flow.now.edges }
-    ensures { IfOk result (λ u. ArePendingMore flow.now node stamps.now pending.old.items pending.new.items) }
+    ensures { IfOk result (λ u. ArePendingMore flow.now node sent.now pending.old.items pending.new.items) }
 {
     let edges = flow.out_edges(node);
     for edge in edges {
-        add_on_edge(pending, *edge, stamps)?;
+        add_on_edge(flow, pending, *edge, sent)?;
     }
     Ok(())
 }
 
-/// A message at the stamp is delivered on an edge, and the receiver sends at these stamps. The error is want of memory.
+/// A message at the stamp is delivered on an edge, and the receiver sends these recs. The error is want of memory.
 pub(crate) fn delivered(
     flow: &Flow,
     counts: &mut Counts,
     edge: EdgeId,
     at: &Stamp,
-    sent: &[Stamp],
+    sent: &[(Stamp, Rec)],
 ) -> Result<(), AllocError>
     requires counts { AreCounts flow.now counts.old }
     requires there { edge < length flow.now.edges }
@@ -126,13 +139,13 @@ pub(crate) fn delivered(
     send(flow, &mut counts.pending, node, sent)
 }
 
-/// The node is notified of the stamp, and sends at these stamps. The error is want of memory.
+/// The node is notified of the stamp, and sends these recs. The error is want of memory.
 pub(crate) fn notified(
     flow: &Flow,
     counts: &mut Counts,
     node: NodeId,
     at: &Stamp,
-    sent: &[Stamp],
+    sent: &[(Stamp, Rec)],
 ) -> Result<(), AllocError>
     requires counts { AreCounts flow.now counts.old }
     requires there { node < length flow.now.nodes }
@@ -145,12 +158,12 @@ pub(crate) fn notified(
     send(flow, &mut counts.pending, node, sent)
 }
 
-/// The node injects its next batch, and sends at these stamps. The error is want of memory.
+/// The node injects its next batch, and sends these recs. The error is want of memory.
 pub(crate) fn injected(
     flow: &Flow,
     counts: &mut Counts,
     node: NodeId,
-    sent: &[Stamp],
+    sent: &[(Stamp, Rec)],
 ) -> Result<(), AllocError>
     requires counts { AreCounts flow.now counts.old }
     requires there { node < length flow.now.nodes }

@@ -5,7 +5,8 @@ ghost use Rattle.fw_frontier.specs.Front.{IsCanonical, IsFrontOf};
 ghost use Rattle.fw_flow.specs.Dataflow.{bounds_of, node_frontier};
 ghost use Rattle.fw_model.specs.Machine.{family_of, AreCanonical};
 ghost use Rattle.fw_progress.specs.Counts.{target_by, AreCounts};
-ghost use Rattle.fw_progress.specs.Growths.{IsMore, IsNoMore, IsGrown, IsTakenUp};
+ghost use Rattle.fw_progress.specs.Growths.{IsMore, IsNoMore, IsGrown, IsWidened};
+ghost use Rattle.fw_progress.specs.Refresh.{IsTakenUp};
 
 use crate::counts::Counts;
 use crate::growth::{Growth, Growths};
@@ -105,7 +106,7 @@ fn widen(
     requires counts { AreCounts flow.now counts.now }
     requires one_each { length fronts.old.items ≡ length flow.now.nodes }
     requires canonical { AreCanonical flow.now fronts.old.items }
-    ensures { IfOk result (λ u. IsTakenUp flow.now counts.now node fronts.old.items fronts.new.items work.old work.new
+    ensures { IfOk result (λ u. IsWidened flow.now counts.now node fronts.old.items fronts.new.items work.old work.new
         growths.old.items growths.new.items) }
 {
     flow_is_well_formed(flow);

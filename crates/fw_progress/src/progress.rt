@@ -17,7 +17,7 @@ ghost use Rattle.fw_progress.specs.Notices.{IsFirstNotice};
 ghost use Rattle.fw_progress.specs.Settle as settling;
 ghost use Rattle.fw_progress.specs.Settle.{SettlesMore, IsGrownAt};
 ghost use Rattle.fw_model.specs.Machine.{Machine, SerialEvent, events as machine_events};
-ghost use Rattle.fw_progress.specs.Progress.{Standing, IsProgressOf, AreFrontsOf, CanSend, CountsBatch, DeliversOne, HasBatchMore, IsNotified, IsInjected, can_have_more};
+ghost use Rattle.fw_progress.specs.Progress.{Standing, IsProgressOf, AreFrontsOf, CanSend, stamps_of_recs, CountsBatch, DeliversOne, HasBatchMore, IsNotified, IsInjected, can_have_more};
 
 use crate::counts::Counts;
 use crate::cut::cut_counts;
@@ -29,6 +29,7 @@ use crate::settle::{any_has_more, grown, grown_at, has_more};
 use crate::start::{largest, no_stamps_each, none};
 use crate::tally::Tally;
 use crate::worklist::Worklist;
+use fw_bag::Rec;
 use fw_flow::laws::flow_is_well_formed;
 use fw_flow::{Choice, EdgeId, Flow, NodeId, SentTable, Steps};
 use fw_frontier::Front;
@@ -207,19 +208,19 @@ impl Progress {
         Ok(())
     }
 
-    /// A message at the stamp is delivered on the edge, and its receiver sends a message at each of these stamps on each of
-    /// its out-edges. The error is want of memory.
+    /// A message at the stamp is delivered on the edge, and its receiver sends these recs at these stamps, on each of its
+    /// out-edges those that the edge carries. The error is want of memory.
     pub fn delivered(
         &mut self,
         flow: &Flow,
         edge: EdgeId,
         at: &Stamp,
-        sent: &[Stamp],
+        sent: &[(Stamp, Rec)],
     ) -> Result<(), AllocError>
         requires progress { IsProgressOf flow.now self.old }
         requires there { edge < length flow.now.edges }
         requires at { in_domain (bounds_of flow.now (receiver flow.now edge)) at.now ≡ true }
-        requires sent { CanSend flow.now (receiver flow.now edge) sent.now }
+        requires sent { CanSend flow.now (receiver flow.now edge) (stamps_of_recs sent.now) }
         ensures progress { IsProgressOf flow.now self.new }
         ensures counts { IfOk result (λ u. DeliversOne flow.now edge at.now sent.now self.old.counts self.new.counts) }
         ensures work { IfOk result (λ u. IsEnlisted (receiver flow.now edge) self.old.work self.new.work) }
@@ -240,18 +241,18 @@ impl Progress {
         told
     }
 
-    /// The node is notified of the stamp, and sends a message at each of these stamps on each of its out-edges. The error is
-    /// want of memory.
+    /// The node is notified of the stamp, and sends these recs at these stamps, on each of its out-edges those that the edge
+    /// carries. The error is want of memory.
     pub fn notified(
         &mut self,
         flow: &Flow,
         node: NodeId,
         at: &Stamp,
-        sent: &[Stamp],
+        sent: &[(Stamp, Rec)],
     ) -> Result<(), AllocError>
         requires progress { IsProgressOf flow.now self.old }
         requires there { node < length flow.now.nodes }
-        requires sent { CanSend flow.now node sent.now }
+        requires sent { CanSend flow.now node (stamps_of_recs sent.now) }
         ensures progress { IsProgressOf flow.now self.new }
         ensures counts { IfOk result (λ u. IsNotified flow.now node at.now sent.now self.old.counts self.new.counts) }
         ensures work { IfOk result (λ u. IsEnlisted node self.old.work self.new.work) }
@@ -271,12 +272,17 @@ impl Progress {
         told
     }
 
-    /// The node injects its next batch, and sends a message at each of these stamps on each of its out-edges. The error is
-    /// want of memory.
-    pub fn injected(&mut self, flow: &Flow, node: NodeId, sent: &[Stamp]) -> Result<(), AllocError>
+    /// The node injects its next batch, and sends these recs at these stamps, on each of its out-edges those that the edge
+    /// carries. The error is want of memory.
+    pub fn injected(
+        &mut self,
+        flow: &Flow,
+        node: NodeId,
+        sent: &[(Stamp, Rec)],
+    ) -> Result<(), AllocError>
         requires progress { IsProgressOf flow.now self.old }
         requires there { node < length flow.now.nodes }
-        requires sent { CanSend flow.now node sent.now }
+        requires sent { CanSend flow.now node (stamps_of_recs sent.now) }
         ensures progress { IsProgressOf flow.now self.new }
         ensures counts { IfOk result (λ u. IsInjected flow.now node sent.now self.old.counts self.new.counts) }
         ensures work { IfOk result (λ u. IsEnlisted node self.old.work self.new.work) }
@@ -606,7 +612,7 @@ fn deliver(
     work: &mut Worklist,
     edge: EdgeId,
     at: &Stamp,
-    sent: &[Stamp],
+    sent: &[(Stamp, Rec)],
 ) -> Result<(), AllocError>
     requires counts { AreCounts flow.now counts.old }
     requires there { edge < length flow.now.edges }
@@ -624,7 +630,7 @@ fn notify(
     work: &mut Worklist,
     node: NodeId,
     at: &Stamp,
-    sent: &[Stamp],
+    sent: &[(Stamp, Rec)],
 ) -> Result<(), AllocError>
     requires counts { AreCounts flow.now counts.old }
     requires there { node < length flow.now.nodes }
@@ -641,7 +647,7 @@ fn inject(
     counts: &mut Counts,
     work: &mut Worklist,
     node: NodeId,
-    sent: &[Stamp],
+    sent: &[(Stamp, Rec)],
 ) -> Result<(), AllocError>
     requires counts { AreCounts flow.now counts.old }
     requires there { node < length flow.now.nodes }

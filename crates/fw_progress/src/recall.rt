@@ -2,7 +2,7 @@
 ghost use Rattle.std.specs.Prelude.{◌≡◌, ◌<◌, ◌∷◌, [], false, length, IsTrue, IsErr, IfOk};
 ghost use Rattle.fw_progress.specs.Trace.{AreTraces, HasDeliveredMore, HasNotifiedMore, HasSentMore};
 
-use crate::traces::{Traces, add_at, add_out};
+use crate::traces::{Traces, add_at};
 use fw_flow::{EdgeId, Flow, NodeId};
 use fw_time::Stamp;
 use std::alloc::AllocError;
@@ -58,13 +58,13 @@ impl Traces {
         Ok(())
     }
 
-    /// The inputs tell that the node injected its batch of the epoch, and that this is not empty: the epoch is kept as one at
-    /// which the node sent, on each of its out-edges. The error is want of memory.
-    pub fn recall_batch(&mut self, flow: &Flow, node: NodeId, epoch: u32) -> Result<(), AllocError>
+    /// The inputs tell that a node injected its batch of the epoch, of which the edge carried a rec: the epoch is kept, with what
+    /// is kept of the edge. The error is want of memory.
+    pub fn recall_sent(&mut self, flow: &Flow, edge: EdgeId, epoch: u32) -> Result<(), AllocError>
         requires traces { AreTraces flow.now self.old }
-        requires there { node < length flow.now.nodes }
+        requires there { edge < length flow.now.edges }
         ensures traces { AreTraces flow.now self.new }
-        ensures recalled { IfOk result (λ u. HasSentMore flow.now node (epoch ∷ []) self.old self.new) }
+        ensures recalled { IfOk result (λ u. HasSentMore edge (epoch ∷ []) self.old self.new) }
         ensures ready { IfOk result (λ u. self.new.refused ≡ false) }
         ensures refused { IsErr result → IsTrue self.new.refused }
         ensures stays { IsTrue self.old.refused → IsErr result }
@@ -73,7 +73,7 @@ impl Traces {
             return Err(AllocError);
         }
         self.refused = true;
-        add_out(flow, &mut self.sent, node, &Stamp::new(&[epoch]))?;
+        add_at(&mut self.sent, edge.place() as usize, &Stamp::new(&[epoch]))?;
         self.refused = false;
         Ok(())
     }

@@ -2,7 +2,7 @@
 ghost use Rattle.std.specs.Prelude.{◌≡◌, length, IfOk};
 ghost use Rattle.fw_model.specs.Machine.{AreCanonical};
 ghost use Rattle.fw_progress.specs.Counts.{AreCounts, AreNodes};
-ghost use Rattle.fw_progress.specs.Growths.{IsRefreshed};
+ghost use Rattle.fw_progress.specs.Refresh.{IsRefreshed};
 
 use crate::counts::Counts;
 use crate::grow::take_up;

@@ -1,21 +1,23 @@
 //! Where the events of all nodes are, and how many messages they sent.
 ghost use Rattle.std.specs.Prelude.{◌≡◌, ◌<◌, ◌∷◌, [], ℕ, Bool, true, false, length, IsTrue, IsErr, IfOk, OnErr};
-ghost use Rattle.std.specs.List.{AllByRecursion};
+ghost use Rattle.std.specs.List.{AllByRecursion, list_any};
 ghost use Rattle.fw_frontier.specs.Frontier.{Frontier};
 ghost use Rattle.fw_flow.specs.declared.event.Event.TheVariants as events;
 ghost use Rattle.fw_flow.specs.declared.event.Message.{Message};
 ghost use Rattle.fw_flow.specs.Dataflow.{System};
+ghost use Rattle.fw_flow.specs.KeyParts.{is_of_part_if};
 ghost use Rattle.fw_model.specs.Writes as writes;
-ghost use Rattle.fw_progress.specs.Progress.{ChangesAt};
+ghost use Rattle.fw_progress.specs.Progress.{ChangesAt, stamps_on};
 ghost use Rattle.fw_progress.specs.SentTally.{CountsMore, IsCountedInAll, IsTallyCutTo};
 ghost use Rattle.fw_progress.specs.Trace as spec;
-ghost use Rattle.fw_progress.specs.Trace.{AreTraces, IsTraceIf, TracesFollow, AreSettledTo, AreThinnedAt, AreCutTo, no_tally, SentMore, CountedMore};
-ghost use Rattle.fw_progress.specs.Traces.{StandForOneMore, HasAdded, IsThinnedBy, StandsInside, ChangesInto, ChangesOut};
+ghost use Rattle.fw_progress.specs.Trace.{AreTraces, IsTraceIf, TracesFollow, AreSettledTo, AreThinnedAt, AreCutTo, no_tally, StandForManyMore, SentMore, CountedMore};
+ghost use Rattle.fw_progress.specs.Traces.{StandForOneMore, HasAdded, IsThinnedBy, StandsInside, ChangesInto, ChangesOut, ChangesEachOut};
 
 use crate::kept_stamps::KeptStamps;
 use crate::sent_tally::SentTally;
+use fw_bag::Rec;
 use fw_flow::laws::flow_is_well_formed;
-use fw_flow::{EdgeId, Flow, NodeId, Policy};
+use fw_flow::{EdgeId, Flow, KeyPart, NodeId, Policy, is_of_part};
 use fw_frontier::Front;
 use fw_time::Stamp;
 use std::alloc::{AllocError, Global};
@@ -54,14 +56,14 @@ impl Traces {
         })
     }
 
-    /// A message at the stamp is delivered on the edge, and its receiver sends a message at each of these stamps on each of
-    /// its out-edges. The error is want of memory, or that the number of what a node sent at a stamp would not fit 64 bits.
+    /// A message at the stamp is delivered on the edge, and its receiver sends these recs at these stamps, on each of its
+    /// out-edges those that the edge carries. The error is want of memory, or that the number of what a node sent at a stamp would not fit 64 bits.
     pub fn delivered(
         &mut self,
         flow: &Flow,
         edge: EdgeId,
         at: &Stamp,
-        sent: &[Stamp],
+        sent: &[(Stamp, Rec)],
     ) -> Result<(), AllocError>
         requires traces { AreTraces flow.now self.old }
         requires there { edge < length flow.now.edges }
@@ -79,20 +81,20 @@ impl Traces {
         self.refused = true;
         let node = flow.dst(edge);
         add_at(&mut self.delivered, edge.place() as usize, at)?;
-        add_sent(flow, &mut self.sent, node, at, sent.len() as u64)?;
+        add_sent(flow, &mut self.sent, node, at, sent)?;
         count_sent(flow, &mut self.counted, node, at, sent.len() as u64)?;
         self.refused = false;
         Ok(())
     }
 
-    /// The node is notified of the stamp, and sends a message at each of these stamps on each of its out-edges. The error is
-    /// want of memory, or that the number of what a node sent at a stamp would not fit 64 bits.
+    /// The node is notified of the stamp, and sends these recs at these stamps, on each of its out-edges those that the edge
+    /// carries. The error is want of memory, or that the number of what a node sent at a stamp would not fit 64 bits.
     pub fn notified(
         &mut self,
         flow: &Flow,
         node: NodeId,
         at: &Stamp,
-        sent: &[Stamp],
+        sent: &[(Stamp, Rec)],
     ) -> Result<(), AllocError>
         requires traces { AreTraces flow.now self.old }
         requires there { node < length flow.now.nodes }
@@ -107,20 +109,20 @@ impl Traces {
         }
         self.refused = true;
         add_at(&mut self.notified, node.place() as usize, at)?;
-        add_sent(flow, &mut self.sent, node, at, sent.len() as u64)?;
+        add_sent(flow, &mut self.sent, node, at, sent)?;
         count_sent(flow, &mut self.counted, node, at, sent.len() as u64)?;
         self.refused = false;
         Ok(())
     }
 
-    /// The node injects its batch of the epoch, and sends a message at each of these stamps on each of its out-edges. The
-    /// error is want of memory, or that the number of what a node sent at a stamp would not fit 64 bits.
+    /// The node injects its batch of the epoch, and sends these recs at these stamps, on each of its out-edges those that the
+    /// edge carries. The error is want of memory, or that the number of what a node sent at a stamp would not fit 64 bits.
     pub fn injected(
         &mut self,
         flow: &Flow,
         node: NodeId,
         epoch: u32,
-        sent: &[Stamp],
+        sent: &[(Stamp, Rec)],
     ) -> Result<(), AllocError>
         requires traces { AreTraces flow.now self.old }
         requires there { node < length flow.now.nodes }
@@ -135,7 +137,7 @@ impl Traces {
         }
         self.refused = true;
         let at = Stamp::new(&[epoch]);
-        add_sent(flow, &mut self.sent, node, &at, sent.len() as u64)?;
+        add_sent(flow, &mut self.sent, node, &at, sent)?;
         count_sent(flow, &mut self.counted, node, &at, sent.len() as u64)?;
         self.refused = false;
         Ok(())
@@ -238,43 +240,52 @@ pub(crate) fn add_at(
     Ok(())
 }
 
-/// An event of a node sends so many messages: its stamp is kept of each out-edge, unless there are none or the node is a
+/// An event of a node sends these recs: its stamp is kept of each out-edge that carries one of them, unless the node is a
 /// sequence. The error is want of memory.
 fn add_sent(
-    flow: &Flow,
-    sent: &mut Vec<KeptStamps>,
-    node: NodeId,
-    at: &Stamp,
-    count: u64,
-) -> Result<(), AllocError>
-    requires { length sent.old.items ≡ length flow.now.edges }
-    ensures { IfOk result (λ u. ChangesOut flow.now node (SentMore flow.now node at.now count) sent.old.items sent.new.items) }
-{
-    if count == 0 {
-        return Ok(());
-    }
-    if flow.kind(node).is_sequence() {
-        return Ok(());
-    }
-    add_out(flow, sent, node, at)
-}
-
-/// One stamp more in the list of each out-edge of a node. The error is want of memory.
-pub(crate) fn add_out(
     flow: &Flow,
     lists: &mut Vec<KeptStamps>,
     node: NodeId,
     at: &Stamp,
+    sent: &[(Stamp, Rec)],
 ) -> Result<(), AllocError>
     requires { length lists.old.items ≡ length flow.now.edges }
-    ensures thinned { IfOk result (λ u. ChangesOut flow.now node (StandForOneMore at.now) lists.old.items lists.new.items) }
-    ensures value { IfOk result (λ u. ChangesOut flow.now node (HasAdded at.now) lists.old.items lists.new.items) }
+    ensures { IfOk result (λ u. ChangesEachOut flow.now node (λ e. SentMore flow.now node at.now (length (stamps_on flow.now e sent.now)))
+        lists.old.items lists.new.items) }
 {
+    if flow.kind(node).is_sequence() {
+        return Ok(());
+    }
     let edges = flow.out_edges(node);
     for edge in edges {
-        add_on(lists, *edge, at)?;
+        add_carried(flow, lists, *edge, at, sent)?;
     }
     Ok(())
+}
+
+/// An event sends these recs: its stamp is kept of an edge, if this carries one of them. The error is want of memory.
+fn add_carried(
+    flow: &Flow,
+    lists: &mut Vec<KeptStamps>,
+    edge: EdgeId,
+    at: &Stamp,
+    sent: &[(Stamp, Rec)],
+) -> Result<(), AllocError>
+    requires { edge < length lists.old.items }
+    ensures { IfOk result (λ u. ChangesAt edge [] (StandForManyMore at.now (length (stamps_on flow.now edge sent.now)))
+        lists.old.items lists.new.items) }
+{
+    if !has_any_of(flow.part(flow.dst(edge)), sent) {
+        return Ok(());
+    }
+    add_on(lists, edge, at)
+}
+
+/// Whether the key of one of the recs is of the part, where there is one; else whether there is a rec.
+fn has_any_of(part: Option<KeyPart>, sent: &[(Stamp, Rec)]) -> bool
+    ensures { result ≡ list_any (λ s. is_of_part_if part s.1.key) sent.now }
+{
+    sent.iter().any(|(_at, rec)| is_of_part(part, rec.key))
 }
 
 /// One stamp more in the list of an edge. The error is want of memory.

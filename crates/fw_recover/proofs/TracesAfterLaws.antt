@@ -20,7 +20,8 @@ use Rattle.fw_flow.specs.Dataflow.{System, policy_of, bounds_of}
 use Rattle.fw_model.specs.Floors.{IsFloor}
 use Rattle.fw_model.specs.Choice.{cut_of}
 use Rattle.fw_model.specs.Covers.{stamp_of_notice}
-use Rattle.fw_model.specs.EventStamps.{causes_in}
+use Rattle.fw_model.specs.EventStamps.{causes_in, base_of_sent}
+use Rattle.fw_model.proofs.AlikeLaws.{for-less}
 use Rattle.fw_model.specs.History.{delivered_messages, sent_messages}
 use Rattle.fw_model.specs.Machine.{Machine, Write, checkpoint, logged_event, events, front_of, no_stamps}
 use Rattle.fw_model.specs.Machine.{Written as WrittenBy}
@@ -34,7 +35,7 @@ use Rattle.fw_keep.specs.Entry.{lies_within, is_beyond, is_written_at}
 use Rattle.fw_keep.specs.Stored.{Records}
 use Rattle.fw_policy.specs.View.{base_of}
 use Rattle.fw_progress.specs.declared.traces.Traces.{Traces}
-use Rattle.fw_progress.specs.Trace.{IsTraceAmong, IsTraceIf}
+use Rattle.fw_progress.specs.Trace.{IsTraceAmong, IsTraceIf, stamps_where_sent}
 use Rattle.fw_rollback.specs.Restored.{is_undone}
 use Rattle.fw_stands.specs.Recovered.{Recovers}
 use Rattle.fw_stands.specs.Parts.{IsTraceIn}
@@ -193,7 +194,7 @@ above-among : (sys : System) (h : List Event) (p : ℕ) (base : Frontier) (trace
 above-among sys h p base traces t = record {
   delivered = λ d l r. (t.delivered d l r).among;
   notified = t.notified.among;
-  sent = λ d l r k. (t.sent d l r k).among;
+  sent = λ d l r k. (for-less sys.flow p (base_of_sent sys.flow p base) (causes_in (sent_messages sys h d)) (stamps_where_sent traces d) (t.sent d l r k)).among;
 }
 
 -- the traces of a node that was cut, where the front of its cut is that of the floor: those of its checkpoint, or what is left of some

@@ -6,7 +6,7 @@ use Rattle.std.proofs.lemmas.List.{get_or_past}
 use Rattle.std.proofs.lemmas.List.Elements.{filter-append}
 use Rattle.fw_lemmas.proofs.Each.{each-filter, each-map, each-one, each-weaker, each-kept}
 use Rattle.fw_time.specs.Stamp.{Stamp, in_domain}
-use Rattle.fw_frontier.specs.Frontier.{Frontier, cover, everything}
+use Rattle.fw_frontier.specs.Frontier.{Frontier, IsFrontier, cover, everything}
 use Rattle.fw_frontier.specs.Front.{Front}
 use Rattle.fw_frontier.proofs.NamesLaws.{frontier-closed}
 use Rattle.fw_flow.specs.declared.choice.Counted.{Counted}
@@ -18,18 +18,17 @@ use Rattle.fw_flow.specs.declared.event.Event.{Event}
 use Rattle.fw_flow.specs.declared.event.Event.TheVariants.{Inject, Deliver, Notify}
 use Rattle.fw_flow.specs.declared.event.Message.{Message}
 use Rattle.fw_flow.specs.Kind.{Kind}
-use Rattle.fw_flow.specs.declared.kind.Kind.TheVariants.{Leave, Regroup, Sequence}
 use Rattle.fw_flow.specs.declared.kind.Policy.{Policy}
 use Rattle.fw_flow.specs.declared.kind.Policy.TheVariants as policy
 use Rattle.fw_flow.specs.declared.restoring.Restoring.TheVariants.{Checkpoints}
-use Rattle.fw_flow.specs.Dataflow.{System, Dataflow, bounds_of, bounds_of_edge, in_edges, is_sequence_kind, kind_of, node_frontier, policy_of, receiver, sender}
+use Rattle.fw_flow.specs.Dataflow.{System, Dataflow, bounds_of, bounds_of_edge, is_sequence_kind, kind_of, node_frontier, policy_of, receiver, sender}
 use Rattle.fw_flow.specs.NodeFunction.{event_stamp, sent_by}
 use Rattle.fw_flow.specs.Projection.{events_at, all_inside}
 use Rattle.fw_flow.specs.Restoring.{can_resend, way_of}
-use Rattle.fw_flow.specs.WellFormed.{IsWellFormed, IsWellFormedSystem}
+use Rattle.fw_flow.specs.WellFormed.{IsWellFormedSystem}
 use Rattle.fw_model.specs.Carried.{carried}
 use Rattle.fw_model.specs.Covers.{covers_in, stamps_inside, stamps_from, stamp_of_notice, notified_inside, takes_its_cut, takes_its_notices, discarded_at}
-use Rattle.fw_model.specs.EventStamps.{StandForSent, StandForNumbered, causes_in, causes_of, tells_sent}
+use Rattle.fw_model.specs.EventStamps.{StandForSent, StandForNumbered, causes_in, tells_sent}
 use Rattle.fw_model.specs.Filtering.{events_inside, messages_from, messages_inside}
 use Rattle.fw_model.specs.History.{AreEventsInDomain, delivered_messages, sent_messages}
 use Rattle.fw_model.specs.Machine.{Machine, events}
@@ -38,16 +37,16 @@ use Rattle.fw_model.specs.Reached.{IsReached}
 use Rattle.fw_model.specs.Thinned.{IsThinned, IsThinnedIf}
 use Rattle.fw_model.specs.Writes.{takes_checkpoints}
 use Rattle.fw_model.proofs.CarriedLaws.{carried-from}
-use Rattle.fw_model.proofs.ArrivalLaws.{in_edges-receive}
+use Rattle.fw_model.proofs.AlikeLaws.{for-same}
 use Rattle.fw_model.proofs.AskedLaws.{reached-all, takes-restoring}
 use Rattle.fw_model.proofs.DomainLaws.{has_epochs}
 use Rattle.fw_model.proofs.LegalLaws.{edge-receiver, legal_messages-in_domain}
 use Rattle.fw_model.proofs.LocalityLaws.{delivers-same, events_at-kept}
 use Rattle.fw_model.proofs.SendPartLaws.{part-sends}
-use Rattle.fw_regain.specs.Causes.{merges_stamps, message_of_told, tells_cause}
+use Rattle.fw_regain.specs.Causes.{message_of_told}
 use Rattle.fw_regain.specs.GotBack.{IsSentGotBack, StandForReceived, ReceivedStampsAreGotBack, StampsAreGotBack}
 use Rattle.fw_regain.specs.Greatest.{AreGreatestIn}
-use Rattle.fw_regain.proofs.CauseLaws.{greatest_sent-stand, delivered-send, merges-one_edge, the_edge}
+use Rattle.fw_regain.proofs.CauseLaws.{greatest_sent-stand}
 use Rattle.fw_regain.proofs.GreatestLaws.{greatest-stand}
 
 -- ---- the covers of a node that takes checkpoints
@@ -167,12 +166,6 @@ at-inside flow p g h =
     (each-filter (λ v. g (event_stamp v) ≡ true) (λ v. g (event_stamp v)) (events_at flow p h)
     (each-one (λ v. g (event_stamp v) ≡ true → g (event_stamp v) ≡ true) (events_at flow p h) (λ v i. i)))
 
-merges-or_tells : (kind : Kind) → is_sequence_kind kind ≡ false → (merges_stamps kind ≡ true) ⊎ (tells_cause kind ≡ true)
-merges-or_tells (Leave l) n = inl refl
-merges-or_tells (Regroup m) n = inl refl
-merges-or_tells Sequence n = absurd (cc)
-merges-or_tells kind n = inr refl
-
 edge_of : (flow : Dataflow) (d p : ℕ) → receiver flow d ≡ p → p < length flow.nodes → d < length flow.edges
 unfolding receiver
 edge_of flow d p r l = elim (cases_lt d (length flow.edges)) [
@@ -181,18 +174,6 @@ edge_of flow d p r l = elim (cases_lt d (length flow.edges)) [
       let past = ap (λ (x : Edge). x.receiver) (get_or_past flow.edges d (record { name = []; sender = length flow.nodes; receiver = length flow.nodes }) k) in
       absurd (omega (arith, past, r, l))
 ]
-
--- the one in-edge of a node at whose kind several stamps send at one
-record HasOneEdge (flow : Dataflow) (p : ℕ) : Type 0 where
-  edge : ℕ
-  there : edge < length flow.edges
-  received : receiver flow edge ≡ p
-
-merges-edge : (flow : Dataflow) → IsWellFormed flow → (p : ℕ) → p < length flow.nodes → merges_stamps (kind_of flow p) ≡ true → HasOneEdge flow p
-merges-edge flow w p l k =
-    let one = the_edge (in_edges flow p) (merges-one_edge (kind_of flow p) (length (in_edges flow p)) k (w.in_degrees p l)) in
-    let a = subst (AllByRecursion (λ d. (d < length flow.edges) × (receiver flow d ≡ p))) one.1 (in_edges-receive flow p) in
-    record { edge = one.0; there = a.0.0; received = a.0.1 }
 
 passed : (g : Frontier) (ss : List Stamp) → AllByRecursion (λ s. g s ≡ true) (filter g ss)
 passed g ss = each-filter (λ s. g s ≡ true) g ss (each-one (λ s. g s ≡ true → g s ≡ true) ss (λ s i. i))
@@ -246,11 +227,12 @@ none-told sys now p e sent is =
     subst (λ (ms : List Counted). StandForSent false sys now p (λ t. true) e (counted_on_edge e ms)) (sym is)
     (record {
       of_cause = tt;
-      thinned = record {
-        among = tt;
-        outside = each-one (λ t. true ≡ false → Contains [] t) (causes_in (sent_messages sys now e)) (λ t f. absurd (cc));
-        inside = λ w. absurd (cc);
-      };
+      thinned = for-same sys.flow p false (λ t. true) (causes_in (sent_messages sys now e)) []
+          (record {
+            among = tt;
+            outside = each-one (λ t. true ≡ false → Contains [] t) (causes_in (sent_messages sys now e)) (λ t f. absurd (cc));
+            inside = λ w. absurd (cc);
+          });
     })
 
 -- what a node sent that cannot send it again
@@ -276,27 +258,13 @@ sent-back sys state p f r stamps w reached l lazy received s b =
     → front_of_edge (bounds_of flow (receiver flow e)) e r.discarded t ≡ cover (bounds_of flow (receiver flow e)) (map at (sent_messages sys now e)) t =
     λ e there q. sent-read sys state p e f (front_of_edge (bounds_of flow (receiver flow e)) e r.discarded) w reached lazy way q (s e there q) in
     record {
-      sent = λ no e there q. elim (merges-or_tells (kind_of flow p) no) [
-        | inl k ↦
-            let one = merges-edge flow w.flow p l k in
-            let c = one.edge in
-            let m = (b e there q).merged k c one.there one.received in
-            let causes : causes_in (sent_messages sys now e) ≡ map at (delivered_messages now c) =
-            delivered-send sys now c e w.flow one.there (one.received ∙ sym q) (ap (λ x. merges_stamps (kind_of flow x)) q ∙ k)
-            (subst (AreEventsInDomain flow now) (sym q) of) in
-            record {
-              of_cause = m.0;
-              thinned = whole g (causes_in (sent_messages sys now e)) (causes_of (counted_on_edge e stamps.sent))
-                  (subst (λ kept. IsThinned g (causes_in (sent_messages sys now e)) kept) (sym m.1)
-                  (subst (λ all. IsThinned g all (stamps_on c stamps.delivered)) (sym causes) (received.delivered c one.received)));
-            }
-        | inr k ↦
-            let t = (b e there q).told k in
-            let stand = greatest_sent-stand sys now e g (front_of_edge (bounds_of flow (receiver flow e)) e r.discarded) t.0 w.flow (ap (λ x. tells_cause (kind_of flow x)) q ∙ k)
-            (subst (AreEventsInDomain flow now) (sym q) of) (subst (λ x. AllByRecursion (λ v. g (event_stamp v) ≡ true) (events_at flow x now)) (sym q) inside)
-            (read e there q) t.1 in
-            subst (λ (ms : List Counted). StandForSent true sys now p g e ms) (sym t.2) (subst (λ x. StandForSent true sys now x g e (map (message_of_told flow e) t.0)) q stand)
-      ];
+      sent = λ no e there q.
+          let t = (b e there q).told no in
+          let stand = greatest_sent-stand sys now e g (front_of_edge (bounds_of flow (receiver flow e)) e r.discarded) t.0 w.flow there (ap (λ x. is_sequence_kind (kind_of flow x)) q ∙ no)
+          (subst (λ x. IsFrontier (bounds_of flow x) g) (sym q) (frontier-closed (bounds_of flow p) f))
+          (subst (AreEventsInDomain flow now) (sym q) of) (subst (λ x. AllByRecursion (λ v. g (event_stamp v) ≡ true) (events_at flow x now)) (sym q) inside)
+          (read e there q) t.1 in
+          subst (λ (ms : List Counted). StandForSent true sys now p g e ms) (sym t.2) (subst (λ x. StandForSent true sys now x g e (map (message_of_told flow e) t.0)) q stand);
       numbered = λ k e there q.
           let bounds = bounds_of flow (receiver flow e) in
           let all = map at (sent_messages sys now e) in

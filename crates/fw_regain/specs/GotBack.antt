@@ -1,6 +1,6 @@
 -- The stamps of a node's events inside a checkpoint are got back from the covers that its record holds.
 use Rattle.std.specs.Prelude.{◌≡◌, ℕ, ◌<◌, true, false, List, [], map, length}
-use Rattle.std.specs.List.{AllByRecursion, flat_map}
+use Rattle.std.specs.List.{flat_map}
 use Rattle.fw_time.specs.Stamp.{Stamp}
 use Rattle.fw_frontier.specs.Frontier.{Frontier, everything}
 use Rattle.fw_frontier.specs.Front.{Front}
@@ -12,7 +12,7 @@ use Rattle.fw_flow.specs.declared.event.Message.{Message}
 use Rattle.fw_flow.specs.Dataflow.{System, Dataflow, bounds_of, is_sequence_kind, kind_of, node_frontier, policy_of, receiver, sender}
 use Rattle.fw_flow.specs.WellFormed.{IsWellFormedSystem}
 use Rattle.fw_model.specs.Covers.{covers_in, stamp_of_notice}
-use Rattle.fw_model.specs.EventStamps.{AreStampsIf, IsOfCause, causes_of, tells_sent}
+use Rattle.fw_model.specs.EventStamps.{AreStampsIf, tells_sent}
 use Rattle.fw_model.specs.Filtering.{events_inside}
 use Rattle.fw_model.specs.History.{delivered_messages}
 use Rattle.fw_model.specs.Machine.{Machine, events}
@@ -20,17 +20,15 @@ use Rattle.fw_model.specs.Offers.{AreAtEdgeStamps, counted_on_edge, front_of_edg
 use Rattle.fw_model.specs.Reached.{IsReached}
 use Rattle.fw_model.specs.Thinned.{IsThinned}
 use Rattle.fw_model.specs.Writes.{takes_checkpoints}
-use Rattle.fw_regain.specs.Causes.{merges_stamps, message_of_told, tells_cause}
+use Rattle.fw_regain.specs.Causes.{message_of_told}
 use Rattle.fw_regain.specs.Greatest.{AreGreatestIn}
 
--- What was sent on edge e is got back: as the greatest stamps inside the cover, with the causes that they tell; where several stamps send
--- at one, at what was delivered; of a sequence, as the greatest numbers.
+-- What was sent on edge e is got back: as the greatest stamps inside the cover, with the causes that they tell; of a sequence, as the
+-- greatest numbers.
 pub record IsSentGotBack (flow : Dataflow) (p : ℕ) (r : Recorded) (stamps : Stamps) (e : ℕ) : Type 0 where
-  pub told : tells_cause (kind_of flow p) ≡ true → (tops : List Stamp)
+  pub told : is_sequence_kind (kind_of flow p) ≡ false → (tops : List Stamp)
       × AreGreatestIn (bounds_of flow (receiver flow e)) (front_of_edge (bounds_of flow (receiver flow e)) e r.discarded) tops
       × (counted_on_edge e stamps.sent ≡ map (message_of_told flow e) tops)
-  pub merged : merges_stamps (kind_of flow p) ≡ true → (d : ℕ) → d < length flow.edges → receiver flow d ≡ p
-      → AllByRecursion (IsOfCause flow p) (counted_on_edge e stamps.sent) × (causes_of (counted_on_edge e stamps.sent) ≡ stamps_on d stamps.delivered)
   pub numbered : is_sequence_kind (kind_of flow p) ≡ true
       → AreGreatestIn (bounds_of flow (receiver flow e)) (front_of_edge (bounds_of flow (receiver flow e)) e r.discarded)
       (stamps_on_from e (everything (bounds_of flow (sender flow e))) stamps.sent)

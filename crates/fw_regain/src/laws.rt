@@ -1,7 +1,7 @@
 //! The laws of what is got back. Of each function that stands here but `greatest_stamps` the `ensures` is one law, and the body is empty.
 ghost use Rattle.std.specs.Prelude.{IfOk};
 ghost use Rattle.fw_frontier.specs.Front.{frontier_of};
-ghost use Rattle.fw_regain.specs.Causes.{DeliveredStampsSend, GreatestSentStampsStandForSent, InjectedBatchesSend, SendStampsTellCauses};
+ghost use Rattle.fw_regain.specs.Causes.{GreatestSentStampsStandForSent, InjectedBatchesSend, SendStampsTellCauses};
 ghost use Rattle.fw_regain.specs.Down.{AllAreDown, AllGoDown, DownChoosesTheWatermark, DownIsReached, DownOffersTheSame, EachStateStartsAgain, NothingFliesWhereAllAreFailed};
 ghost use Rattle.fw_regain.specs.GotBack.{ReceivedStampsAreGotBack, StampsAreGotBack};
 ghost use Rattle.fw_regain.specs.Greatest.{AreGreatestIn, GreatestStampsStandForAll};
@@ -24,8 +24,7 @@ pub fn greatest_stamps_stand_for_all()
     ensures { GreatestStampsStandForAll }
 {}
 
-/// Where the stamp at which an event sends tells the event's, it tells that: at each kind but where a loop is left, where numbers are
-/// regrouped, and at a sequence.
+/// The least stamp that sends at one sends there, and is at most each that does: at each kind but a sequence.
 pub fn send_stamps_tell_causes()
     ensures { SendStampsTellCauses }
 {}
@@ -33,11 +32,6 @@ pub fn send_stamps_tell_causes()
 /// The greatest stamps inside the cover of what was sent on an edge, each with the cause that it tells, stand for what was sent.
 pub fn greatest_sent_stamps_stand_for_sent()
     ensures { GreatestSentStampsStandForSent }
-{}
-
-/// Where a loop is left, and where numbers are regrouped, the causes of what was sent are the stamps that were delivered.
-pub fn delivered_stamps_send()
-    ensures { DeliveredStampsSend }
 {}
 
 /// In a legal history the causes of what an input sent are the epochs that were injected and have a rec.

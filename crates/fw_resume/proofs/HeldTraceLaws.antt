@@ -1,10 +1,10 @@
 -- What is told to traces that start again is what an engine knows of a state before its first recovery.
 use Rattle.std.proofs.Common.{◌≡◌, ◌↔◌, ℕ, zero, suc, ◌+◌, ◌<◌, ◌≤◌, ◌^◌, Bool, true, false, not, ◌&&◌, ◌||◌, ◌==◌, cond, nat_lt, List, [], ◌∷◌, ◌++◌, length, get_or, map, filter, Some, refl, sym, ap, subst, ◌∙◌, inl, inr, arith}
 use Rattle.std.specs.List.{AllByRecursion, AllZip, Contains, flat_map, range_with_len}
-use Rattle.std.proofs.lemmas.Bool.{and_from, and_parts, cases_Bool, cases_eq, cond_both, eq-eqb, eqb-true, lt-ltb, ltb-true}
+use Rattle.std.proofs.lemmas.Bool.{cases_Bool, cases_eq, cond_both, eq-eqb, eqb-true, lt-ltb, ltb-true, or_cases}
 use Rattle.std.proofs.lemmas.List.{map-append}
 use Rattle.std.proofs.lemmas.List.Elements.{Contains-append_left, Contains-append_right}
-use Rattle.fw_lemmas.proofs.Each.{each-append, each-filter, each_of-filter, each-there, each-weaker, each-map}
+use Rattle.fw_lemmas.proofs.Each.{each-append, each-filter, each_of-filter, each-there, each-weaker}
 use Rattle.fw_time.specs.Stamp.{Stamp, in_domain}
 use Rattle.fw_bag.specs.declared.rec.Rec.{Rec}
 use Rattle.fw_frontier.specs.Frontier.{Frontier}
@@ -15,19 +15,20 @@ use Rattle.fw_flow.specs.declared.event.Event.TheVariants as happened
 use Rattle.fw_flow.specs.declared.event.Message.{Message}
 use Rattle.fw_flow.specs.declared.kind.Policy.TheVariants as policy
 use Rattle.fw_flow.specs.Dataflow.{System, Dataflow, batches_of, bounds_of, greatest_number, is_input_kind, kind_of, node_frontier, policy_of, receiver, system_of, HasEpochs, sender, out_edges, is_one_of}
-use Rattle.fw_flow.specs.NodeFunction.{event_node, event_stamp, sent_by}
-use Rattle.fw_flow.specs.Projection.{events_at}
+use Rattle.fw_flow.specs.NodeFunction.{event_node, event_stamp}
 use Rattle.fw_flow.specs.WellFormed.{IsPolicyAllowed, IsWellFormedSystem}
 use Rattle.fw_flow.proofs.OutEdgeLaws.{out_edges-from}
+use Rattle.fw_model.specs.Carried.{carried_recs}
 use Rattle.fw_model.specs.Choice.{is_serial_logged, logged_history}
 use Rattle.fw_model.specs.Covers.{stamp_of_notice}
-use Rattle.fw_model.specs.EventStamps.{causes_in}
+use Rattle.fw_model.specs.EventStamps.{causes_in, base_of_sent}
+use Rattle.fw_model.proofs.AlikeLaws.{for-less}
 use Rattle.fw_model.specs.History.{delivered_messages, injected_count, message_on, IsLegal, sent_messages}
 use Rattle.fw_model.specs.Machine.{Machine, SerialEvent, Write, Stage, acknowledged, checkpoint, logged_event, events, front_of}
 use Rattle.fw_model.specs.Machine.{Written as WrittenBy}
 use Rattle.fw_model.specs.Reached.{IsReached}
 use Rattle.fw_model.specs.Writes.{not_collected, takes_checkpoints}
-use Rattle.fw_model.proofs.CarriedLaws.{carried-all, carried-none}
+use Rattle.fw_model.proofs.CarriedLaws.{carried-none}
 use Rattle.fw_model.proofs.AskedLaws.{AreSerialsBelow, reached-all, serials-each}
 use Rattle.fw_model.proofs.ChoiceLaws.{by_batches-input}
 use Rattle.fw_model.proofs.DomainLaws.{has_epochs}
@@ -45,7 +46,7 @@ use Rattle.fw_progress.specs.declared.traces.Traces.{Traces}
 use Rattle.fw_progress.specs.Trace.{HasOutside, HasTraceOutside, IsTraceAmong, IsTraceIf, delivered_on, stamps_notified, stamps_where_sent}
 use Rattle.fw_progress.proofs.OutLaws.{out-among}
 use Rattle.fw_progress.proofs.AmongLaws.{input-trace}
-use Rattle.fw_progress.proofs.CutTraceLaws.{causes-of, sent-domain}
+use Rattle.fw_progress.proofs.CutTraceLaws.{edge-domain}
 use Rattle.fw_progress.proofs.TraceLaws.{each-had}
 use Rattle.fw_regain.specs.Third.{IsKeptLogged}
 use Rattle.fw_regain.proofs.CauseLaws.{injected-send}
@@ -53,9 +54,9 @@ use Rattle.fw_regain.proofs.ThirdLaws.{nothing-collected}
 use Rattle.fw_progress.proofs.OfferLaws.{each-joined}
 use Rattle.fw_regain.proofs.GreatestLaws.{each-from}
 use Rattle.fw_running.proofs.CountLaws.{batches_there}
-use Rattle.fw_resume.proofs.RecallLaws.{contains-itself, contains-nothing, recalled-append, told-there}
+use Rattle.fw_resume.proofs.RecallLaws.{contains-itself, contains-nothing, recalled-append}
 use Rattle.fw_running.specs.Held.{KnowsTracesHeld}
-use Rattle.fw_resume.specs.Recalled.{Recall, RecallsAreOf, of_sending, of_delivery, of_notice, HaveRecalled, recalls_of, recalls_of_batch, recalls_of_entry, recalls_of_event, recalls_of_input, recalls_of_inputs, recalls_of_written, sendings}
+use Rattle.fw_resume.specs.Recalled.{Recall, RecallsAreOf, of_sending, of_delivery, of_notice, HaveRecalled, recalls_of, recalls_of_batch, recalls_of_entry, recalls_of_event, recalls_of_input, recalls_of_inputs, recalls_of_written, sending_on}
 
 -- ---- lists
 
@@ -114,10 +115,10 @@ Happens sys h (of_sending e t) = Contains (causes_in (sent_messages sys h e)) t
 Happens sys h (of_delivery e t) = Contains (map (λ (m : Message). m.at) (delivered_messages h e)) t
 Happens sys h (of_notice p t) = Contains (flat_map (stamp_of_notice p) h) t
 
--- which epochs an input sent
+-- which epochs an input sent on an edge
 abbrev InputsSend : System → List Happened → Type 0
-InputsSend sys h = (s : ℕ) → is_input_kind (kind_of sys.flow s) ≡ true → (t : Stamp) → Contains (causes_in (sent_by sys s (events_at sys.flow s h))) t
-    ↔ ((x : ℕ) × (t ≡ x ∷ []) × (x < injected_count s h) × (0 < length (get_or (batches_of sys s) x [])))
+InputsSend sys h = (e : ℕ) → is_input_kind (kind_of sys.flow (sender sys.flow e)) ≡ true → (t : Stamp) → Contains (causes_in (sent_messages sys h e)) t
+    ↔ ((x : ℕ) × (t ≡ x ∷ []) × (x < injected_count (sender sys.flow e) h) × (0 < length (carried_recs sys.flow e (get_or (batches_of sys (sender sys.flow e)) x []))))
 
 batch-happens : (flow : Dataflow) (given : List (ℕ × List (List Rec))) (h : List Happened) (low : Front) (p x : ℕ) → InputsSend (system_of flow given) h
     → IsLegal (system_of flow given) h → p < length flow.nodes → x < injected_count p h
@@ -125,20 +126,30 @@ batch-happens : (flow : Dataflow) (given : List (ℕ × List (List Rec))) (h : L
 batch-happens flow given h low p x sends legal l m =
     let sys = system_of flow given in
     let batch = get_or (batches_at given p) x [] in
-    cond_both (nat_lt 0 (length batch) && not (inside low (x ∷ []))) (sendings (out_edges flow p) (x ∷ [])) [] (AllByRecursion (Happens sys h))
-    (λ k.
-    let some : 0 < length (get_or (batches_of sys p) x []) =
-    subst (λ bs. 0 < length (get_or bs x [])) (sym (batches_there flow given p l)) (ltb-true 0 (length batch) (and_parts (nat_lt 0 (length batch)) (not (inside low (x ∷ []))) k).0) in
-    elim (cases_Bool (is_input_kind (kind_of flow p))) [
+    let told : ℕ → List Recall = sending_on flow batch (x ∷ []) in
+    let E : ℕ → Type 0 = λ e. AllByRecursion (Happens sys h) (told e) in
+    cond_both (inside low (x ∷ [])) [] (flat_map told (out_edges flow p)) (AllByRecursion (Happens sys h)) (λ k. tt)
+    (λ k. elim (cases_Bool (is_input_kind (kind_of flow p))) [
       | inl i ↦
-          let sent = (sends p i (x ∷ [])).1 (x, refl, m, some) in
-          each-map (Happens sys h) (λ e. of_sending e (x ∷ [])) (out_edges flow p)
-          (out_edges-from (λ e. Contains (causes_in (sent_messages sys h e)) (x ∷ [])) flow p
-          (λ e there r. subst (λ ms. Contains (causes_in ms) (x ∷ [])) (sym (carried-all flow e (sent_by sys (sender flow e) (events_at flow (sender flow e) h))))
-          (subst (λ q. Contains (causes_in (sent_by sys q (events_at flow q h))) (x ∷ [])) (sym r) sent)))
+          each-joined (Happens sys h) told (out_edges flow p)
+          (out_edges-from E flow p
+          (λ e there r.
+          cond_both (nat_lt 0 (length (carried_recs flow e batch))) (of_sending e (x ∷ []) ∷ []) [] (AllByRecursion (Happens sys h))
+          (λ some.
+          let of_batch : 0 < length (carried_recs flow e batch) = ltb-true 0 (length (carried_recs flow e batch)) some in
+          let mine : 0 < length (carried_recs flow e (get_or (batches_of sys p) x [])) =
+          subst (λ bs. 0 < length (carried_recs flow e (get_or bs x []))) (sym (batches_there flow given p l)) of_batch in (
+            (sends e (subst (λ q. is_input_kind (kind_of flow q) ≡ true) (sym r) i) (x ∷ [])).1 (
+              x,
+              refl,
+              subst (λ q. x < injected_count q h) (sym r) m,
+              subst (λ q. 0 < length (carried_recs flow e (get_or (batches_of sys q) x []))) (sym r) mine,
+            ),
+            tt,
+          ))
+          (λ none. tt)))
       | inr n ↦ let none = only_inputs_inject sys h legal p n in absurd (omega (arith, m, none))
     ])
-    (λ k. tt)
 
 delivery-told : (e : ℕ) (t : Stamp) (r : Rec) (v : Happened) → told_of v ≡ Some (Deliver e t r) → Contains (map (λ (m : Message). m.at) (message_on e v)) t
 delivery-told e t r (happened.Inject s x) k = absurd (cc)
@@ -226,7 +237,7 @@ recalled-among sys h these old new first m all p = record {
   ]);
   sent = λ d l r k. each-had (Contains (causes_in (sent_messages sys h d))) (stamps_where_sent new d) (λ s c. elim ((m.is (of_sending d s)).0 c) [
     | inl was ↦ absurd (contains-nothing s (each-contained (Contains []) s (stamps_where_sent old d) was
-        (subst (λ ms. AllByRecursion (Contains (causes_in ms)) (stamps_where_sent old d)) (carried-none sys.flow d) (none.sent d l r k).among)))
+        (subst (λ ms. AllByRecursion (Contains (causes_in ms)) (stamps_where_sent old d)) (carried-none sys.flow d) (for-less sys.flow p (base_of_sent sys.flow p (λ s. true)) (causes_in (sent_messages sys [] d)) (stamps_where_sent old d) (none.sent d l r k)).among)))
     | inr now ↦ each-contained (Happens sys h) (of_sending d s) these now all
   ]);
 }
@@ -236,16 +247,25 @@ recalled-among sys h these old new first m all p = record {
 
 -- ---- inputs
 
+among-there : (es : List ℕ) (e : ℕ) → is_one_of e es ≡ true → Contains es e
+among-there [] e k = absurd (cc)
+among-there (x ∷ es) e k = elim (or_cases (x == e) (is_one_of e es) k) [
+  | inl i ↦ subst (Contains (x ∷ es)) (eqb-true x e i) (Contains-append_left (x ∷ []) es x (contains-itself x))
+  | inr i ↦ Contains-append_right (x ∷ []) es e (among-there es e i)
+]
+
 sent-told : (flow : Dataflow) (given : List (ℕ × List (List Rec))) (injected : List ℕ) (low : List Front) (entries : List Entry) (p x : ℕ) → p < length flow.nodes → (e : ℕ) → is_one_of e (out_edges flow p) ≡ true
-    → x < get_or injected p 0 → 0 < length (get_or (batches_at given p) x []) → inside (front_of low p) (x ∷ []) ≡ false
+    → x < get_or injected p 0 → 0 < length (carried_recs flow e (get_or (batches_at given p) x [])) → inside (front_of low p) (x ∷ []) ≡ false
     → Contains (recalls_of flow given injected low entries) (of_sending e (x ∷ []))
 sent-told flow given injected low entries p x l e on m some out =
     let batch = get_or (batches_at given p) x [] in
     let of : ℕ → List Recall = λ q. recalls_of_input flow q (front_of low q) (batches_at given q) (get_or injected q 0) in
-    let test : (nat_lt 0 (length batch) && not (inside (front_of low p) (x ∷ []))) ≡ true =
-    and_from (nat_lt 0 (length batch)) (not (inside (front_of low p) (x ∷ []))) (lt-ltb 0 (length batch) some) (ap not out) in
+    let told : ℕ → List Recall = sending_on flow batch (x ∷ []) in
+    let here : Contains (told e) (of_sending e (x ∷ [])) =
+    subst (λ b. Contains (cond b (of_sending e (x ∷ []) ∷ []) []) (of_sending e (x ∷ []))) (sym (lt-ltb 0 (length (carried_recs flow e batch)) some)) (contains-itself (of_sending e (x ∷ []))) in
     let one : Contains (recalls_of_batch flow p (front_of low p) (batches_at given p) x) (of_sending e (x ∷ [])) =
-    subst (λ b. Contains (cond b (sendings (out_edges flow p) (x ∷ [])) []) (of_sending e (x ∷ []))) (sym test) (told-there (out_edges flow p) (x ∷ []) e on) in
+    subst (λ b. Contains (cond b [] (flat_map told (out_edges flow p))) (of_sending e (x ∷ []))) (sym out)
+    (flat-has told (out_edges flow p) e (of_sending e (x ∷ [])) (among-there (out_edges flow p) e on) here) in
     Contains-append_left (recalls_of_inputs flow given injected low (length flow.nodes)) (flat_map (recalls_of_entry flow) entries) (of_sending e (x ∷ []))
     (flat-has of (range_with_len 0 (length flow.nodes)) p (of_sending e (x ∷ [])) (number-there 0 (length flow.nodes) p (omega arith) (omega (arith, l)))
     (flat-has (recalls_of_batch flow p (front_of low p) (batches_at given p)) (range_with_len 0 (get_or injected p 0)) x (of_sending e (x ∷ []))
@@ -423,7 +443,7 @@ recalled-held flow given injected low entries old new state w r counts lows of f
     legal = runs-legal sys r.0 r.1 state w.flow (has_epochs sys w) r.2
 
     sends : InputsSend sys h
-    sends s i t = injected-send sys h s legal i t
+    sends e i t = injected-send sys h e legal i t
 
     among : (p : ℕ) → IsTraceAmong sys h p new
     among p = recalled-among sys h (recalls_of flow given injected low entries) old new first m (all-happens flow given state injected low entries sends legal counts of) p
@@ -435,26 +455,30 @@ recalled-held flow given injected low entries old new state w r counts lows of f
         → IsKeptLogged u.serial state.writes) v state.history c (nothing-collected sys state p w r) n out logged in
         entered sys state entries v (reached-all sys w r.0 r.1 state r.2).restore.serials c of kept
 
-    outside_by : (p : ℕ) → p < length flow.nodes → is_input_kind (kind_of flow p) ≡ true → (e : ℕ) → is_one_of e (out_edges flow p) ≡ true
-        → HasOutside (base p) (causes_in (sent_by sys p (events_at flow p h))) (stamps_where_sent new e)
-    outside_by p l input e on =
-        let ms = sent_by sys p (events_at flow p h) in
-        let of_domain = causes-of (bounds_of flow p) ms (sent-domain sys h p (legal_events-in_domain sys h w.flow (has_epochs sys w) legal p)) in
+    outside_by : (e : ℕ) → e < length flow.edges → sender flow e < length flow.nodes → is_input_kind (kind_of flow (sender flow e)) ≡ true
+        → HasOutside (base (sender flow e)) (causes_in (sent_messages sys h e)) (stamps_where_sent new e)
+    outside_by e there l input =
+        let p = sender flow e in
+        let ms = sent_messages sys h e in
+        let B : Stamp → Type 0 = λ u. in_domain (bounds_of flow p) u ≡ true in
+        let of_domain = edge-domain sys h p e refl (legal_events-in_domain sys h w.flow (has_epochs sys w) legal p) in
         each-had (λ t. base p t ≡ false → Contains (stamps_where_sent new e) t) (causes_in ms) (λ t c out.
-        let s = (sends p input t).0 c in
+        let s = (sends e input t).0 c in
         let x = s.0 in
-        let in_it : in_domain (bounds_of flow p) t ≡ true = each-contained (λ u. in_domain (bounds_of flow p) u ≡ true) t (causes_in ms) c of_domain in
+        let in_it : in_domain (bounds_of flow p) t ≡ true = each-contained B t (causes_in ms) c of_domain in
         let out_it : inside (front_of low p) (x ∷ []) ≡ false = ap (λ fs. inside (front_of fs p) (x ∷ [])) lows ∙ ap (inside (front_of state.low p)) (sym s.1)
         ∙ second-fails (in_domain (bounds_of flow p) t) (inside (front_of state.low p) t) in_it out in
         let less : x < get_or injected p 0 = let count = counts p l in let k = s.2 in omega (arith, count, k) in
-        let some : 0 < length (get_or (batches_at given p) x []) = subst (λ bs. 0 < length (get_or bs x [])) (batches_there flow given p l) s.3 in
-        subst (Contains (stamps_where_sent new e)) (sym s.1) ((m.is (of_sending e (x ∷ []))).1 (inr (sent-told flow given injected low entries p x l e on less some out_it))))
+        let some : 0 < length (carried_recs flow e (get_or (batches_at given p) x [])) =
+        subst (λ bs. 0 < length (carried_recs flow e (get_or bs x []))) (batches_there flow given p l) s.3 in
+        subst (Contains (stamps_where_sent new e)) (sym s.1)
+        ((m.is (of_sending e (x ∷ []))).1 (inr (sent-told flow given injected low entries p x l e (out-among flow p e there refl) less some out_it))))
 
     outside : (p : ℕ) → p < length flow.nodes → is_input_kind (kind_of flow p) ≡ true
         → (e : ℕ) → e < length flow.edges → sender flow e ≡ p → HasOutside (base p) (causes_in (sent_messages sys h e)) (stamps_where_sent new e)
     outside p l input e there r =
-        subst (λ ms. HasOutside (base p) (causes_in ms) (stamps_where_sent new e)) (sym (carried-all flow e (sent_by sys (sender flow e) (events_at flow (sender flow e) h))))
-        (subst (λ q. HasOutside (base p) (causes_in (sent_by sys q (events_at flow q h))) (stamps_where_sent new e)) (sym r) (outside_by p l input e (out-among flow p e there r)))
+        subst (λ q. HasOutside (base q) (causes_in (sent_messages sys h e)) (stamps_where_sent new e)) r
+        (outside_by e there (subst (λ q. q < length flow.nodes) (sym r) l) (subst (λ q. is_input_kind (kind_of flow q) ≡ true) (sym r) input))
 
 pub recalls-held : (flow : Dataflow) (given : List (ℕ × List (List Rec))) (injected : List ℕ) (low : List Front) (entries : List Entry) (old mid new : Traces) (state : Machine)
     → RecallsAreOf flow given injected low entries old state → HaveRecalled (recalls_of_inputs flow given injected low (length flow.nodes)) old mid

@@ -1,10 +1,10 @@
 -- What traces have that are told of stamps, one after the other.
-use Rattle.std.proofs.Common.{◌≡◌, ◌↔◌, ◌⊎◌, ℕ, zero, suc, ◌+◌, ◌<◌, true, false, not, ◌&&◌, ◌==◌, cond, ◌||◌, nat_lt, List, [], ◌∷◌, ◌++◌, length, get_or, map, take, refl, sym, ap, subst, ◌∙◌, inl, inr, arith}
-use Rattle.std.specs.List.{Contains, flat_map, range_with_len, AllByRecursion}
+use Rattle.std.proofs.Common.{◌≡◌, ◌↔◌, ◌⊎◌, ℕ, zero, suc, ◌+◌, ◌<◌, ◌≤◌, Bool, true, false, ◌==◌, cond, ◌||◌, nat_lt, List, [], ◌∷◌, ◌++◌, length, get_or, map, take, refl, sym, ap, subst, ◌∙◌, inl, inr, arith}
+use Rattle.std.specs.List.{Contains, flat_map, range_with_len}
 use Rattle.std.specs.BTreeSet.{insert_key}
-use Rattle.std.proofs.lemmas.Bool.{and_from, cases_eq, eq-eqb, lt-ltb, eqb-true, or_cases, or_left, or_right}
+use Rattle.std.proofs.lemmas.Bool.{cases_eq, eq-eqb, lt-ltb}
 use Rattle.std.proofs.lemmas.Grind.{flat_map-append}
-use Rattle.std.proofs.lemmas.List.{append-nil, take_more}
+use Rattle.std.proofs.lemmas.List.{append-nil, get_or_past, length-map, take_more}
 use Rattle.std.proofs.Math.Seq.{take-length}
 use Rattle.std.proofs.lemmas.List.Elements.{Contains-append_left, Contains-append_right, Contains-append_cases}
 use Rattle.fw_lemmas.proofs.Each.{each-weaker}
@@ -12,16 +12,17 @@ use Rattle.fw_time.specs.Stamp.{Stamp, stamp_cmp}
 use Rattle.fw_bag.specs.declared.rec.Rec.{Rec}
 use Rattle.fw_frontier.specs.Front.{Front, inside}
 use Rattle.fw_lines.specs.Batches.{batches_at}
-use Rattle.fw_flow.specs.Dataflow.{Dataflow, receiver, sender, out_edges, is_one_of}
+use Rattle.fw_flow.specs.Dataflow.{Dataflow, receiver, out_edges}
+use Rattle.fw_flow.specs.KeyParts.{is_carried}
+use Rattle.fw_model.specs.Carried.{carried_recs}
 use Rattle.fw_model.specs.Machine.{front_of}
 use Rattle.fw_model.proofs.ThinnedLaws.{each-contained}
 use Rattle.fw_progress.specs.declared.traces.Traces.{Traces}
 use Rattle.fw_progress.specs.Progress.{ChangesAt}
 use Rattle.fw_progress.specs.Trace.{HasDeliveredMore, HasNotifiedMore, HasSentMore}
-use Rattle.fw_progress.specs.Traces.{HasAdded, ChangesOut}
-use Rattle.fw_progress.proofs.OutLaws.{among-out, out-among, sender-there}
+use Rattle.fw_progress.specs.Traces.{HasAdded}
 use Rattle.fw_progress.proofs.TraceLaws.{each-itself, each_of-insert, insert-each}
-use Rattle.fw_resume.specs.Recalled.{Recall, of_sending, of_delivery, of_notice, HasRecalled, HaveRecalled, recalls_of_batch, recalls_of_input, recalls_of_inputs, sendings}
+use Rattle.fw_resume.specs.Recalled.{Recall, of_sending, of_delivery, of_notice, HasRecalled, HaveRecalled, recalls_of_batch, recalls_of_input, recalls_of_inputs, sending_on}
 
 -- ---- one after the other
 
@@ -72,6 +73,10 @@ recalled-number f n old mid new a b =
     ap (λ m. flat_map f (range_with_len 0 m)) on ∙ ap (flat_map f) (range-more 0 n ∙ ap (λ x. range_with_len 0 n ++ x ∷ []) (let e : 0 + n ≡ n = omega arith in e)) ∙ flat_map-append f (range_with_len 0 n) (n ∷ [])
     ∙ ap (λ zs. flat_map f (range_with_len 0 n) ++ zs) (append-nil (f n)) in
     subst (λ zs. HaveRecalled zs old new) (sym all) (recalled-append (flat_map f (range_with_len 0 n)) (f n) old mid new a b)
+
+-- nothing is told
+pub recalled-none : (traces : Traces) → HaveRecalled [] traces traces
+recalled-none traces = record { is = λ x. (λ k. inl k, λ k. elim k [ inl a ↦ a | inr c ↦ absurd (contains-nothing x c) ]) }
 
 -- ---- one stamp more
 
@@ -150,62 +155,29 @@ one-notified q t old new m (of_notice p s) =
     parts : (p : ℕ) (s : Stamp) → of_notice p s ≡ of_notice q t → (p ≡ q) × (s ≡ t)
     parts p s k = (cc, cc)
 
--- in the lists of a node's out-edges, and in no other
-out-is : (flow : Dataflow) (q : ℕ) (at : Stamp) (old new : List (List Stamp)) → q < length flow.nodes → ChangesOut flow q (HasAdded at) old new → (e : ℕ) (s : Stamp)
-    → Contains (get_or new e []) s ↔ (Contains (get_or old e []) s ⊎ ((is_one_of e (out_edges flow q) ≡ true) × (s ≡ at)))
-out-is flow q at old new l c e s = elim (cases_eq (sender flow e) q) [
-  | inl i ↦
-      let there = sender-there flow q e l i in
-      let is = added-is at s (get_or old e []) (get_or new e []) (c.here e there i) in (
-        λ x. elim (is.0 x) [ inl a ↦ inl a | inr b ↦ inr (out-among flow q e there i, b) ],
-        λ x. is.1 (elim x [ inl a ↦ inl a | inr b ↦ inr b.1 ]),
-      )
-  | inr n ↦
-      let same = c.others e n in (
-        λ x. inl (subst (λ ss. Contains ss s) same x),
-        λ x. subst (λ ss. Contains ss s) (sym same) (elim x [ inl a ↦ a | inr b ↦ absurd (n (among-out flow q e b.0)) ]),
-      )
-]
-
--- what is told of a stamp on these edges
-IsToldOn : List ℕ → Stamp → Recall → Type 0
-IsToldOn es t (of_sending e s) = (is_one_of e es ≡ true) × (s ≡ t)
-IsToldOn es t (of_delivery e s) = ⊥
-IsToldOn es t (of_notice p s) = ⊥
-
-each-told : (es all : List ℕ) (t : Stamp) → ((e : ℕ) → is_one_of e es ≡ true → is_one_of e all ≡ true) → AllByRecursion (IsToldOn all t) (sendings es t)
-unfolding IsToldOn
-each-told [] all t k = tt
-each-told (e ∷ es) all t k = (
-  (k e (or_left (e == e) (is_one_of e es) (eq-eqb e e refl)), refl),
-  each-told es all t (λ d i. k d (or_right (e == d) (is_one_of d es) i)),
-)
-
-told-on : (es : List ℕ) (t : Stamp) (x : Recall) → Contains (sendings es t) x → IsToldOn es t x
-told-on es t x c = each-contained (IsToldOn es t) x (sendings es t) c (each-told es es t (λ e i. i))
-
-pub told-there : (es : List ℕ) (t : Stamp) (e : ℕ) → is_one_of e es ≡ true → Contains (sendings es t) (of_sending e t)
-told-there [] t e k = absurd (cc)
-told-there (d ∷ es) t e k = elim (or_cases (d == e) (is_one_of e es) k) [
-  | inl i ↦ Contains-append_left (of_sending d t ∷ []) (sendings es t) (of_sending e t) (subst (λ x. Contains (of_sending d t ∷ []) (of_sending x t)) (eqb-true d e i) (contains-itself (of_sending d t)))
-  | inr i ↦ Contains-append_right (of_sending d t ∷ []) (sendings es t) (of_sending e t) (told-there es t e i)
-]
-
-all-sendings : (flow : Dataflow) (q : ℕ) (t : Stamp) (old new : Traces) → q < length flow.nodes → HasSentMore flow q t old new → (x : Recall)
-    → HasRecalled new x ↔ (HasRecalled old x ⊎ Contains (sendings (out_edges flow q) t) x)
-unfolding IsToldOn
-all-sendings flow q t old new l m (of_sending e s) =
-    let is = out-is flow q t old.sent.items new.sent.items l m.sent e s in (
+one-sent : (e : ℕ) (t : Stamp) (old new : Traces) → HasSentMore e t old new → (x : Recall) → HasRecalled new x ↔ (HasRecalled old x ⊎ Contains (of_sending e t ∷ []) x)
+one-sent e t old new m (of_sending d s) =
+    let is = changed-is e t old.sent.items new.sent.items m.sent d s in (
       λ k. elim (is.0 k) [
         | inl a ↦ inl a
-        | inr b ↦ inr (subst (λ x. Contains (sendings (out_edges flow q) t) (of_sending e x)) (sym b.1) (told-there (out_edges flow q) t e b.0))
+        | inr b ↦ inr (subst (λ x. Contains (of_sending e t ∷ []) (of_sending x s)) (sym b.0)
+            (subst (λ x. Contains (of_sending e t ∷ []) (of_sending e x)) (sym b.1) (contains-itself (of_sending e t))))
       ],
-      λ k. is.1 (elim k [ inl a ↦ inl a | inr c ↦ inr (told-on (out_edges flow q) t (of_sending e s) c) ]),
+      λ k. is.1 (elim k [ inl a ↦ inl a | inr c ↦ inr (parts d s (contains-one (of_sending e t) (of_sending d s) c)) ]),
     )
-all-sendings flow q t old new l m (of_delivery d s) =
-    same-is_had d s old.delivered.items new.delivered.items (Contains (sendings (out_edges flow q) t) (of_delivery d s)) m.delivered (told-on (out_edges flow q) t (of_delivery d s))
-all-sendings flow q t old new l m (of_notice p s) =
-    same-is_had p s old.notified.items new.notified.items (Contains (sendings (out_edges flow q) t) (of_notice p s)) m.notified (told-on (out_edges flow q) t (of_notice p s))
+  where
+    parts : (d : ℕ) (s : Stamp) → of_sending d s ≡ of_sending e t → (d ≡ e) × (s ≡ t)
+    parts d s k = (cc, cc)
+one-sent e t old new m (of_delivery d s) =
+    same-is_had d s old.delivered.items new.delivered.items (Contains (of_sending e t ∷ []) (of_delivery d s)) m.delivered (λ c. absurd (none (contains-one (of_sending e t) (of_delivery d s) c)))
+  where
+    none : of_delivery d s ≡ of_sending e t → ⊥
+    none k = cc
+one-sent e t old new m (of_notice p s) =
+    same-is_had p s old.notified.items new.notified.items (Contains (of_sending e t ∷ []) (of_notice p s)) m.notified (λ c. absurd (none (contains-one (of_sending e t) (of_notice p s) c)))
+  where
+    none : of_notice p s ≡ of_sending e t → ⊥
+    none k = cc
 
 pub delivered-recalled : (e : ℕ) (t : Stamp) (old new : Traces) → HasDeliveredMore e t old new → HaveRecalled (of_delivery e t ∷ []) old new
 delivered-recalled e t old new m = record { is = one-delivered e t old new m }
@@ -213,18 +185,68 @@ delivered-recalled e t old new m = record { is = one-delivered e t old new m }
 pub notified-recalled : (q : ℕ) (t : Stamp) (old new : Traces) → HasNotifiedMore q t old new → HaveRecalled (of_notice q t ∷ []) old new
 notified-recalled q t old new m = record { is = one-notified q t old new m }
 
-pub sending-recalled : (flow : Dataflow) (q : ℕ) (t : Stamp) (old new : Traces) → q < length flow.nodes → HasSentMore flow q t old new
-    → HaveRecalled (sendings (out_edges flow q) t) old new
-sending-recalled flow q t old new l m = record { is = all-sendings flow q t old new l m }
+pub sending-recalled : (e : ℕ) (t : Stamp) (old new : Traces) → HasSentMore e t old new → HaveRecalled (of_sending e t ∷ []) old new
+sending-recalled e t old new m = record { is = one-sent e t old new m }
 
 -- ---- what is told of a batch, and of an event
 
-pub batch-recalled : (flow : Dataflow) (p : ℕ) (low : Front) (batches : List (List Rec)) (x : ℕ) (old new : Traces) → p < length flow.nodes → 0 < length (get_or batches x []) → inside low (x ∷ []) ≡ false
-    → HasSentMore flow p (x ∷ []) old new → HaveRecalled (recalls_of_batch flow p low batches x) old new
-batch-recalled flow p low batches x old new there some out m =
-    let test : (nat_lt 0 (length (get_or batches x [])) && not (inside low (x ∷ []))) ≡ true =
-    and_from (nat_lt 0 (length (get_or batches x []))) (not (inside low (x ∷ []))) (lt-ltb 0 (length (get_or batches x [])) some) (ap not out) in
-    subst (λ b. HaveRecalled (cond b (sendings (out_edges flow p) (x ∷ [])) []) old new) (sym test) (sending-recalled flow p (x ∷ []) old new there m)
+-- of an edge, by whether it carries one of the recs
+pub sent-recalled : (flow : Dataflow) (rs : List Rec) (t : Stamp) (e : ℕ) (old new : Traces) (b : Bool) → b ≡ nat_lt 0 (length (carried_recs flow e rs)) → b ≡ true
+    → HasSentMore e t old new → HaveRecalled (sending_on flow rs t e) old new
+sent-recalled flow rs t e old new b is k m =
+    subst (λ x. HaveRecalled (cond x (of_sending e t ∷ []) []) old new) (sym (sym is ∙ k)) (sending-recalled e t old new m)
+
+pub unsent-recalled : (flow : Dataflow) (rs : List Rec) (t : Stamp) (e : ℕ) (traces : Traces) (b : Bool) → b ≡ nat_lt 0 (length (carried_recs flow e rs)) → b ≡ false
+    → HaveRecalled (sending_on flow rs t e) traces traces
+unsent-recalled flow rs t e traces b is k = subst (λ x. HaveRecalled (cond x (of_sending e t ∷ []) []) traces traces) (sym (sym is ∙ k)) (recalled-none traces)
+
+-- whether an edge carries one of the recs, where so many of those that are left are carried as of all
+pub carries-one : (flow : Dataflow) (e : ℕ) (all left rest : List Rec) (r : Rec) → length (carried_recs flow e all) ≡ length (carried_recs flow e left) → left ≡ r ∷ rest
+    → is_carried flow e r ≡ true → true ≡ nat_lt 0 (length (carried_recs flow e all))
+carries-one flow e all left rest r same more k =
+    let one : length (carried_recs flow e all) ≡ suc (length (carried_recs flow e rest)) =
+    same ∙ ap (λ rs. length (carried_recs flow e rs)) more ∙ ap (λ b. length (cond b (r ∷ carried_recs flow e rest) (carried_recs flow e rest))) k in
+    sym (lt-ltb 0 (length (carried_recs flow e all)) (omega (arith, one)))
+
+pub carries-next : (flow : Dataflow) (e : ℕ) (all left rest : List Rec) (r : Rec) → length (carried_recs flow e all) ≡ length (carried_recs flow e left) → left ≡ r ∷ rest
+    → is_carried flow e r ≡ false → length (carried_recs flow e all) ≡ length (carried_recs flow e rest)
+carries-next flow e all left rest r same more k =
+    same ∙ ap (λ rs. length (carried_recs flow e rs)) more ∙ ap (λ b. length (cond b (r ∷ carried_recs flow e rest) (carried_recs flow e rest))) k
+
+pub carries-none : (flow : Dataflow) (e : ℕ) (all left : List Rec) → length (carried_recs flow e all) ≡ length (carried_recs flow e left) → left ≡ []
+    → false ≡ nat_lt 0 (length (carried_recs flow e all))
+carries-none flow e all left same none = sym (ap (nat_lt 0) (same ∙ ap (λ rs. length (carried_recs flow e rs)) none))
+
+-- of a batch without a rec no edge carries one
+none_sent : (flow : Dataflow) (t : Stamp) (es : List ℕ) → flat_map (sending_on flow [] t) es ≡ []
+none_sent flow t [] = refl
+none_sent flow t (e ∷ es) = none_sent flow t es
+
+cond-same : (b : Bool) (xs : List Recall) → cond b xs xs ≡ xs
+cond-same true xs = refl
+cond-same false xs = refl
+
+-- past the last batch nothing is told
+pub past-recalled : {B : Type 0} (f : B → List Rec) (bs : List B) (flow : Dataflow) (p : ℕ) (low : Front) (x : ℕ) (traces : Traces) → length bs ≤ x
+    → HaveRecalled (recalls_of_batch flow p low (map f bs) x) traces traces
+past-recalled f bs flow p low x traces past =
+    let none : get_or (map f bs) x [] ≡ [] = get_or_past (map f bs) x [] (omega (arith, past, length-map bs f)) in
+    let nothing : recalls_of_batch flow p low (map f bs) x ≡ [] =
+    ap (λ rs. cond (inside low (x ∷ [])) [] (flat_map (sending_on flow rs (x ∷ [])) (out_edges flow p))) none
+    ∙ ap (λ (these : List Recall). cond (inside low (x ∷ [])) [] these) (none_sent flow (x ∷ []) (out_edges flow p)) ∙ cond-same (inside low (x ∷ [])) [] in
+    subst (λ these. HaveRecalled these traces traces) (sym nothing) (recalled-none traces)
+
+-- so is nothing of an epoch inside the low watermark
+pub inside-recalled : (flow : Dataflow) (p : ℕ) (low : Front) (batches : List (List Rec)) (x : ℕ) (traces : Traces) → inside low (x ∷ []) ≡ true
+    → HaveRecalled (recalls_of_batch flow p low batches x) traces traces
+inside-recalled flow p low batches x traces k =
+    subst (λ b. HaveRecalled (cond b [] (flat_map (sending_on flow (get_or batches x []) (x ∷ [])) (out_edges flow p))) traces traces) (sym k) (recalled-none traces)
+
+-- of all out-edges, where the epoch lies outside the low watermark
+pub batch-recalled : (flow : Dataflow) (p : ℕ) (low : Front) (batches : List (List Rec)) (x : ℕ) (old new : Traces) → inside low (x ∷ []) ≡ false
+    → HaveRecalled (flat_map (sending_on flow (get_or batches x []) (x ∷ [])) (out_edges flow p)) old new → HaveRecalled (recalls_of_batch flow p low batches x) old new
+batch-recalled flow p low batches x old new out m =
+    subst (λ b. HaveRecalled (cond b [] (flat_map (sending_on flow (get_or batches x []) (x ∷ [])) (out_edges flow p))) old new) (sym out) m
 
 pub event-recalled : (flow : Dataflow) (p e : ℕ) (t : Stamp) (old new : Traces) → receiver flow e ≡ p → HasDeliveredMore e t old new
     → HaveRecalled (cond (receiver flow e == p) (of_delivery e t ∷ []) []) old new
@@ -242,10 +264,6 @@ pub batch-is : {B : Type 0} (f : B → List Rec) (bs : List B) (i : ℕ) (b : B)
 batch-is f [] i b l e = absurd (omega (arith, l))
 batch-is f (a ∷ bs) zero b l e = ap f (sym e)
 batch-is f (a ∷ bs) (suc i) b l e = batch-is f bs i b (omega (arith, l)) e
-
-pub some-rec : (rs : List Rec) → (rs ≡ [] → ⊥) → 0 < length rs
-some-rec [] n = absurd (n refl)
-some-rec (r ∷ rs) n = omega arith
 
 -- what one more node tells
 pub input-next : (flow : Dataflow) (given : List (ℕ × List (List Rec))) (injected : List ℕ) (low : List Front) (n node : ℕ) (front : Front) (batches : List (List Rec)) (count : ℕ) (old mid new : Traces)

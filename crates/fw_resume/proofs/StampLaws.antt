@@ -1,12 +1,13 @@
 -- Stamps that are got back edge by edge: each edge once, and what is asked of them.
-use Rattle.std.proofs.Common.{◌≡◌, ◌⊎◌, ℕ, zero, suc, ◌+◌, ◌<◌, ◌≤◌, Bool, true, false, ◌&&◌, ◌||◌, ◌==◌, cond, List, [], ◌∷◌, ◌++◌, length, map, filter, take, drop, get_or, drop-cons, ◌/◌, Option, Some, None, refl, sym, ap, subst, ◌∙◌, inl, inr, arith}
-use Rattle.std.specs.Prelude.{slice_index}
+use Rattle.std.proofs.Common.{◌≡◌, ◌⊎◌, ℕ, zero, suc, ◌+◌, ◌<◌, ◌≤◌, Bool, true, false, ◌&&◌, ◌||◌, ◌==◌, cond, List, [], ◌∷◌, ◌++◌, length, map, filter, take, drop, get_or, drop-cons, refl, sym, ap, subst, ◌∙◌, inl, inr, arith}
+use Rattle.std.specs.Prelude.{◌*◌, min, slice_index}
 use Rattle.std.specs.List.{AllByRecursion}
 use Rattle.std.proofs.lemmas.Bool.{cases_Bool, cond_both, eq-eqb, eqb-true, false_from_ne_true, not-true, not-false}
 use Rattle.std.proofs.lemmas.List.{append-nil, take_more}
 use Rattle.std.proofs.lemmas.List.Elements.{filter-append}
 use Rattle.fw_lemmas.proofs.Each.{each-weaker, each-one, each-append, each_of-filter, each-map, each_of-map}
-use Rattle.fw_time.specs.Stamp.{Stamp, in_domain, outer}
+use Rattle.fw_time.specs.Stamp.{Stamp, in_domain}
+use Rattle.fw_time.proofs.StampLaws.{leq-length}
 use Rattle.fw_frontier.specs.Frontier.{everything}
 use Rattle.fw_frontier.specs.Front.{frontier_of}
 use Rattle.fw_flow.specs.declared.choice.Counted.{Counted}
@@ -14,28 +15,26 @@ use Rattle.fw_flow.specs.declared.choice.OfEdge.{OfEdge}
 use Rattle.fw_flow.specs.declared.choice.Recorded.{Recorded}
 use Rattle.fw_flow.specs.declared.choice.Stamps.{Stamps}
 use Rattle.fw_flow.specs.Kind.{Kind}
-use Rattle.fw_flow.specs.declared.kind.Kind.TheVariants.{Leave, Sequence, Regroup}
+use Rattle.fw_flow.specs.declared.kind.Kind.TheVariants.{Enter, Leave, Sequence, Regroup}
 use Rattle.fw_flow.specs.declared.node.Edge.{Edge}
-use Rattle.fw_flow.specs.Dataflow.{Dataflow, bounds_of, edges_into, edges_from, in_edges, out_edges, is_one_of, kind_of, policy_of, receiver, sender, send_stamp, send_stamp_of_kind, bounds_of_domain, domain_of_kind, out_domain_of}
+use Rattle.fw_flow.specs.Dataflow.{Dataflow, greatest_number, bounds_of, edges_into, edges_from, in_edges, out_edges, is_one_of, is_sequence_kind, kind_of, policy_of, receiver, sender, bounds_of_domain, domain_of_kind, out_domain_of_kind}
 use Rattle.fw_flow.specs.Projection.{all_inside}
 use Rattle.fw_flow.specs.Restoring.{can_resend}
 use Rattle.fw_flow.specs.WellFormed.{IsWellFormed}
 use Rattle.fw_flow.proofs.EdgeLaws.{in_edges-at}
 use Rattle.fw_flow.proofs.OutEdgeLaws.{out_edges-at, out_edges-from}
-use Rattle.fw_flow.proofs.SendStampLaws.{domain_length, regrouped_first}
-use Rattle.fw_model.specs.EventStamps.{IsOfCause, causes_of, tells_sent}
+use Rattle.fw_flow.proofs.SendStampLaws.{domain_length, entered_length}
+use Rattle.fw_model.specs.EventStamps.{tells_sent}
 use Rattle.fw_model.specs.Offers.{AreAtEdgeStamps, counted_on_edge, front_of_edge, stamps_on, stamps_on_from}
 use Rattle.fw_model.specs.Sending.{SendsByCount}
 use Rattle.fw_model.proofs.ArrivalLaws.{in_edges-receive}
 use Rattle.fw_model.proofs.KindSorts.{is_sequence}
-use Rattle.fw_model.proofs.LegalLaws.{edge-receiver}
-use Rattle.fw_model.proofs.SendingLaws.{send_stamp-in_domain}
-use Rattle.fw_regain.specs.Causes.{cause_told, merges_stamps, message_of_told, tells_cause}
+use Rattle.fw_model.proofs.DomainLaws.{edge-bounds}
+use Rattle.fw_regain.specs.Causes.{cause_told, message_of_told}
 use Rattle.fw_regain.specs.GotBack.{AreGotBack, IsSentGotBack}
 use Rattle.fw_regain.specs.Greatest.{AreGreatestIn}
-use Rattle.fw_regain.proofs.CauseLaws.{merges-one_edge, the_edge}
 use Rattle.fw_progress.specs.StampData.{message_at}
-use Rattle.fw_resume.specs.Stamps.{AreDeliveredBack, AreGreatestOn, AreOnEdges, AreSentBack, HasMoreOn, cause_back, merged_from, sent_at, sent_from}
+use Rattle.fw_resume.specs.Stamps.{AreDeliveredBack, AreGreatestOn, AreOnEdges, AreSentBack, HasMoreOn, HasLengthFor, cause_back, sent_at}
 
 -- ---- each edge once
 
@@ -197,67 +196,41 @@ more_delivered flow r d tops old new g e = record {
 
 -- ---- what was sent
 
-pub more_told : (flow : Dataflow) (p e : ℕ) (r : Recorded) (delivered : List Counted) (tops : List Stamp) (old new : List Counted) → merges_stamps (kind_of flow p) ≡ false
-    → AreGreatestOn flow e r.discarded tops → new ≡ old ++ map (sent_at (kind_of flow p) e) tops → HasMoreOn (AreSentBack flow p r delivered) e old new
-more_told flow p e r delivered tops old new n g is = record {
+pub more_told : (flow : Dataflow) (p e : ℕ) (r : Recorded) (tops : List Stamp) (old new : List Counted)
+    → AreGreatestOn flow e r.discarded tops → new ≡ old ++ map (sent_at (kind_of flow p) e) tops → HasMoreOn (AreSentBack flow p r) e old new
+more_told flow p e r tops old new g is = record {
   more = map (sent_at (kind_of flow p) e) tops;
   put = is;
   of_edge = each-map (λ (m : Counted). m.edge ≡ e) (sent_at (kind_of flow p) e) tops (each-one (λ t. e ≡ e) tops (λ t. refl));
-  right = record { told = λ k. (tops, g, refl); merged = λ k. let c : true ≡ false = sym k ∙ n in absurd (cc) };
+  right = (tops, g, refl);
 }
 
-from-on : (e : ℕ) (t : Stamp) (at : Option Stamp) → AllByRecursion (λ (m : Counted). m.edge ≡ e) (sent_from e t at)
-from-on e t None = tt
-from-on e t (Some u) = (refl, tt)
+length-of_kind : (flow : Dataflow) (kind : Kind) (t : Stamp) → in_domain (bounds_of_domain flow (out_domain_of_kind flow kind)) t ≡ true → HasLengthFor kind t
+length-of_kind flow (Leave l) t i = entered_length flow (Enter l) l t refl i
+length-of_kind flow (Regroup n) t i = leq-length t (greatest_number ∷ []) i
+length-of_kind flow kind t i = tt
 
-merged-on : (flow : Dataflow) (p e : ℕ) (ms : List Counted) → AllByRecursion (λ (m : Counted). m.edge ≡ e) (merged_from flow p e ms)
-merged-on flow p e [] = tt
-merged-on flow p e (m ∷ ms) =
-    each-append (λ (m : Counted). m.edge ≡ e) (sent_from e m.at (send_stamp flow p m.at)) (merged_from flow p e ms) (from-on e m.at (send_stamp flow p m.at)) (merged-on flow p e ms)
+-- the greatest stamps at which a node of the kind sends are as long as their causes ask
+pub tops-length : (flow : Dataflow) (p e : ℕ) (covers : List OfEdge) (tops : List Stamp) → IsWellFormed flow → sender flow e ≡ p → AreGreatestOn flow e covers tops
+    → AllByRecursion (HasLengthFor (kind_of flow p)) tops
+tops-length flow p e covers tops w s g =
+    subst (λ q. AllByRecursion (HasLengthFor (kind_of flow q)) tops) s
+    (each-weaker (λ t. in_domain (bounds_of flow (receiver flow e)) t ≡ true) (HasLengthFor (kind_of flow (sender flow e))) tops
+    (λ t i. length-of_kind flow (kind_of flow (sender flow e)) t (edge-bounds flow w e t ∙ i)) g.of_domain)
 
-pub more_merged : (flow : Dataflow) (p e : ℕ) (r : Recorded) (delivered old new : List Counted) → merges_stamps (kind_of flow p) ≡ true
-    → new ≡ old ++ merged_from flow p e delivered → HasMoreOn (AreSentBack flow p r delivered) e old new
-more_merged flow p e r delivered old new k is = record {
-  more = merged_from flow p e delivered;
-  put = is;
-  of_edge = merged-on flow p e delivered;
-  right = record { told = λ n. let c : true ≡ false = sym k ∙ n in absurd (cc); merged = λ q. refl };
-}
-
--- where several stamps send at one, each of them sends
-record Sends (flow : Dataflow) (p : ℕ) (t : Stamp) : Type 0 where
-  at : Stamp
-  is : send_stamp flow p t ≡ Some at
-
-merges-send : (flow : Dataflow) (p : ℕ) (kind : Kind) (t : Stamp) → kind_of flow p ≡ kind → merges_stamps kind ≡ true → 0 < length t → Sends flow p t
-merges-send flow p (Leave l) t k m some = record { at = outer t; is = ap (λ x. send_stamp_of_kind flow x t) k }
-merges-send flow p (Regroup n) t k m some = record { at = (slice_index t 0 / n) ∷ []; is = ap (λ x. send_stamp_of_kind flow x t) k ∙ regrouped_first n t some }
-merges-send flow p kind t k m some = absurd (cc)
-
-merged-of_cause : (flow : Dataflow) (p e : ℕ) → merges_stamps (kind_of flow p) ≡ true → (ms : List Counted) → AllByRecursion (λ (m : Counted). 0 < length m.at) ms
-    → AllByRecursion (IsOfCause flow p) (merged_from flow p e ms) × (causes_of (merged_from flow p e ms) ≡ map (λ (m : Counted). m.at) ms)
-merged-of_cause flow p e k [] a = (tt, refl)
-merged-of_cause flow p e k (m ∷ ms) a =
-    let s = merges-send flow p (kind_of flow p) m.at refl k a.0 in
-    let rest = merged-of_cause flow p e k ms a.1 in
-    let one : Counted = record { edge = e; at = s.at; causes = m.at ∷ []; count = 1 } in
-    let here : sent_from e m.at (send_stamp flow p m.at) ≡ one ∷ [] = ap (sent_from e m.at) s.is in
-    subst (λ ns. AllByRecursion (IsOfCause flow p) (ns ++ merged_from flow p e ms)
-    × (causes_of (ns ++ merged_from flow p e ms) ≡ m.at ∷ map (λ (m : Counted). m.at) ms)) (sym here)
-    (((m.at, s.is, refl), rest.0), ap (λ ss. m.at ∷ ss) rest.1)
+-- the cause of an epoch of regrouped numbers is its first number
+pub cause_of_epoch : (n : ℕ) (u : Stamp) → length u ≡ 1 → min (slice_index u 0 * n) greatest_number ∷ [] ≡ map (λ x. min (x * n) greatest_number) u
+cause_of_epoch n [] l = absurd (cc)
+cause_of_epoch n (x ∷ []) l = refl
+cause_of_epoch n (x ∷ (y ∷ u)) l = absurd (omega arith)
 
 -- ---- all of it
 
-tells-no_merge : (kind : Kind) → tells_cause kind ≡ true → merges_stamps kind ≡ false
-tells-no_merge (Leave l) k = absurd (cc)
-tells-no_merge (Regroup n) k = absurd (cc)
-tells-no_merge kind k = refl
-
-told-cause : (kind : Kind) (u : Stamp) → tells_cause kind ≡ true → cause_back kind u ≡ cause_told kind u
+told-cause : (kind : Kind) (u : Stamp) → is_sequence_kind kind ≡ false → cause_back kind u ≡ cause_told kind u
 told-cause Sequence u k = absurd (cc)
 told-cause kind u k = refl
 
-told-messages : (flow : Dataflow) (p e : ℕ) → sender flow e ≡ p → tells_cause (kind_of flow p) ≡ true → (tops : List Stamp)
+told-messages : (flow : Dataflow) (p e : ℕ) → sender flow e ≡ p → is_sequence_kind (kind_of flow p) ≡ false → (tops : List Stamp)
     → map (sent_at (kind_of flow p) e) tops ≡ map (message_of_told flow e) tops
 told-messages flow p e s k [] = refl
 told-messages flow p e s k (u ∷ us) =
@@ -329,33 +302,15 @@ delivered-on_edges flow p r delivered a =
     at-edges (λ e t. in_domain (bounds_of flow (receiver flow e)) t ≡ true) (AreDeliveredBack flow r) (in_edges flow p) delivered a
     (λ e ns i g. each_of-map (λ t. in_domain (bounds_of flow (receiver flow e)) t ≡ true) (λ (m : Counted). m.at) ns g.of_domain)
 
--- where several stamps send at one all was delivered on one edge
-all-on_edge : (flow : Dataflow) (p d : ℕ) (r : Recorded) (delivered : List Counted) → IsWellFormed flow → p < length flow.nodes → merges_stamps (kind_of flow p) ≡ true
-    → d < length flow.edges → receiver flow d ≡ p → AreOnEdges (AreDeliveredBack flow r) (in_edges flow p) delivered → counted_on_edge d delivered ≡ delivered
-all-on_edge flow p d r delivered w l k there is a =
-    let one = the_edge (in_edges flow p) (merges-one_edge (kind_of flow p) (length (in_edges flow p)) k (w.in_degrees p l)) in
-    let only : (e : ℕ) → is_one_of e (in_edges flow p) ≡ true → e ≡ one.0 = λ e i.
-    elim (one-either e [] one.0 (subst (λ es. is_one_of e es ≡ true) one.1 i)) [ inl j ↦ absurd (cc) | inr j ↦ j ] in
-    let mine = only d (in-one flow p d there is) in
-    all-on d delivered (each-weaker (λ (m : Counted). is_one_of m.edge (in_edges flow p) ≡ true) (λ m. m.edge ≡ d) delivered (λ m i. only m.edge i ∙ sym mine) a.there)
-
-sent-back : (flow : Dataflow) (p : ℕ) (r : Recorded) (stamps : Stamps) → IsWellFormed flow → p < length flow.nodes
-    → AreOnEdges (AreDeliveredBack flow r) (in_edges flow p) stamps.delivered → AreOnEdges (AreSentBack flow p r stamps.delivered) (out_edges flow p) stamps.sent
+sent-back : (flow : Dataflow) (p : ℕ) (r : Recorded) (stamps : Stamps)
+    → AreOnEdges (AreSentBack flow p r) (out_edges flow p) stamps.sent
     → (e : ℕ) → e < length flow.edges → sender flow e ≡ p → IsSentGotBack flow p r stamps e
-sent-back flow p r stamps w l a b e there is =
-    let s = b.each e (out-one flow p e there is) in
+sent-back flow p r stamps b e there is =
+    let t = b.each e (out-one flow p e there is) in
     record {
-      told = λ k. let t = s.told (tells-no_merge (kind_of flow p) k) in (t.0, t.1, t.2 ∙ told-messages flow p e is k t.0);
-      merged = λ k d m q.
-          let c = merged-of_cause flow p e k stamps.delivered (each-weaker (λ (m : Counted). in_domain (bounds_of flow p) m.at ≡ true) (λ m. 0 < length m.at) stamps.delivered
-          (λ m i. short flow p m.at i) (delivered-inside flow p r stamps.delivered a)) in
-          let i = s.merged k in (
-            subst (AllByRecursion (IsOfCause flow p)) (sym i) c.0,
-            ap causes_of i ∙ c.1 ∙ ap (map (λ (m : Counted). m.at)) (sym (all-on_edge flow p d r stamps.delivered w l k m q a)),
-          );
+      told = λ k. (t.0, t.1, t.2 ∙ told-messages flow p e is k t.0);
       numbered = λ k.
           let kind = is_sequence (kind_of flow p) k in
-          let t = s.told (ap merges_stamps kind) in
           let g = everything (bounds_of flow (sender flow e)) in
           subst (λ ss. AreGreatestOn flow e r.discarded ss)
           (sym (numbers-on g e (kind_of flow p) t.0 kind (ap (λ q. in_domain (bounds_of flow q) (0 ∷ [])) is ∙ first-inside flow p kind) stamps.sent t.2)) t.1;
@@ -372,42 +327,18 @@ sends flow p (d ∷ es) e a i = elim (cases_Bool (d == e)) [
 out-sends : (flow : Dataflow) (p e : ℕ) → is_one_of e (out_edges flow p) ≡ true → (e < length flow.edges) × (sender flow e ≡ p)
 out-sends flow p e i = sends flow p (out_edges flow p) e (out_edges-from (λ d. (d < length flow.edges) × (sender flow d ≡ p)) flow p (λ d l s. (l, s))) i
 
--- where a node sends from a stamp of its domain is a stamp of each of its out-edges
-sent-inside : (flow : Dataflow) (p e : ℕ) → IsWellFormed flow → sender flow e ≡ p → (t : Stamp) → in_domain (bounds_of flow p) t ≡ true → (at : Option Stamp)
-    → send_stamp flow p t ≡ at → AllByRecursion (λ (m : Counted). in_domain (bounds_of flow (receiver flow e)) m.at ≡ true) (sent_from e t at)
-sent-inside flow p e w s t i None k = tt
-sent-inside flow p e w s t i (Some u) k =
-    (edge-receiver flow w e u (subst (λ q. in_domain (bounds_of_domain flow (out_domain_of flow q)) u ≡ true) (sym s) (send_stamp-in_domain flow p t u i k)), tt)
-
-merged-inside : (flow : Dataflow) (p e : ℕ) → IsWellFormed flow → sender flow e ≡ p → (ms : List Counted)
-    → AllByRecursion (λ (m : Counted). in_domain (bounds_of flow p) m.at ≡ true) ms
-    → AllByRecursion (λ (m : Counted). in_domain (bounds_of flow (receiver flow e)) m.at ≡ true) (merged_from flow p e ms)
-merged-inside flow p e w s [] a = tt
-merged-inside flow p e w s (m ∷ ms) a =
-    each-append (λ (n : Counted). in_domain (bounds_of flow (receiver flow e)) n.at ≡ true) (sent_from e m.at (send_stamp flow p m.at)) (merged_from flow p e ms)
-    (sent-inside flow p e w s m.at a.0 (send_stamp flow p m.at) refl) (merged-inside flow p e w s ms a.1)
-
 -- the causes that are told are at stamps of the edges
-sent-on_edges : (flow : Dataflow) (p : ℕ) (r : Recorded) (delivered sent : List Counted) → IsWellFormed flow
-    → AllByRecursion (λ (m : Counted). in_domain (bounds_of flow p) m.at ≡ true) delivered
-    → AreOnEdges (AreSentBack flow p r delivered) (out_edges flow p) sent → AreAtEdgeStamps flow sent
-sent-on_edges flow p r delivered sent w i b =
-    at-edges (λ e t. in_domain (bounds_of flow (receiver flow e)) t ≡ true) (AreSentBack flow p r delivered) (out_edges flow p) sent b
-    (λ e ns m s. elim (cases_Bool (merges_stamps (kind_of flow p))) [
-      | inl k ↦ subst (AllByRecursion (λ (n : Counted). in_domain (bounds_of flow (receiver flow e)) n.at ≡ true)) (sym (s.merged k))
-          (merged-inside flow p e w (out-sends flow p e m).1 delivered i)
-      | inr k ↦
-          let t = s.told k in
-          subst (AllByRecursion (λ (n : Counted). in_domain (bounds_of flow (receiver flow e)) n.at ≡ true)) (sym t.2)
-          (each-map (λ (n : Counted). in_domain (bounds_of flow (receiver flow e)) n.at ≡ true) (sent_at (kind_of flow p) e) t.0 t.1.of_domain)
-    ])
+sent-on_edges : (flow : Dataflow) (p : ℕ) (r : Recorded) (sent : List Counted) → AreOnEdges (AreSentBack flow p r) (out_edges flow p) sent → AreAtEdgeStamps flow sent
+sent-on_edges flow p r sent b =
+    at-edges (λ e t. in_domain (bounds_of flow (receiver flow e)) t ≡ true) (AreSentBack flow p r) (out_edges flow p) sent b
+    (λ e ns m t. subst (AllByRecursion (λ (n : Counted). in_domain (bounds_of flow (receiver flow e)) n.at ≡ true)) (sym t.2)
+    (each-map (λ (n : Counted). in_domain (bounds_of flow (receiver flow e)) n.at ≡ true) (sent_at (kind_of flow p) e) t.0 t.1.of_domain))
 
 pub got_back : (flow : Dataflow) (p : ℕ) (r : Recorded) (stamps : Stamps) → IsWellFormed flow → p < length flow.nodes
     → AreOnEdges (AreDeliveredBack flow r) (in_edges flow p) stamps.delivered → AreGreatestIn (bounds_of flow p) (frontier_of (bounds_of flow p) r.notified) stamps.notified
-    → (can_resend (policy_of flow p) ≡ false → AreOnEdges (AreSentBack flow p r stamps.delivered) (out_edges flow p) stamps.sent)
+    → (can_resend (policy_of flow p) ≡ false → AreOnEdges (AreSentBack flow p r) (out_edges flow p) stamps.sent)
     → (can_resend (policy_of flow p) ≡ true → stamps.sent ≡ []) → AreGotBack flow p r stamps
 got_back flow p r stamps w l a n b none =
-    let inside = delivered-inside flow p r stamps.delivered a in
     let told : tells_sent flow p ≡ true → can_resend (policy_of flow p) ≡ false = λ t. not-true (can_resend (policy_of flow p)) t in
     record {
       received = record {
@@ -419,10 +350,10 @@ got_back flow p r stamps w l a n b none =
         delivered-on_edges flow p r stamps.delivered a,
         elim (cases_Bool (can_resend (policy_of flow p))) [
           | inl k ↦ subst (AreAtEdgeStamps flow) (sym (none k)) tt
-          | inr k ↦ sent-on_edges flow p r stamps.delivered stamps.sent w inside (b k)
+          | inr k ↦ sent-on_edges flow p r stamps.sent (b k)
         ],
       );
-      sent = λ t e m k. sent-back flow p r stamps w l a (b (told t)) e m k;
+      sent = λ t e m k. sent-back flow p r stamps (b (told t)) e m k;
       none_sent = λ t. none (not-false (can_resend (policy_of flow p)) t);
     }
 

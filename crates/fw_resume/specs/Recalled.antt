@@ -1,5 +1,5 @@
 -- What is told to traces that start again: where inputs sent, and at which stamps the events are that writes log.
-use Rattle.std.specs.Prelude.{◌≡◌, ◌↔◌, ◌⊎◌, ℕ, ◌<◌, false, not, ◌&&◌, ◌==◌, nat_lt, if◌then◌else◌, List, [], ◌∷◌, ◌++◌, length, slice_index_or, map}
+use Rattle.std.specs.Prelude.{◌≡◌, ◌↔◌, ◌⊎◌, ℕ, ◌<◌, false, ◌==◌, nat_lt, if◌then◌else◌, List, [], ◌∷◌, ◌++◌, length, slice_index_or}
 use Rattle.std.specs.List.{Contains, flat_map, range_with_len}
 use Rattle.fw_time.specs.Stamp.{Stamp}
 use Rattle.fw_bag.specs.declared.rec.Rec.{Rec}
@@ -8,6 +8,7 @@ use Rattle.fw_frontier.specs.Front.{Front, inside}
 use Rattle.fw_lines.specs.Batches.{batches_at}
 use Rattle.fw_flow.specs.Dataflow.{Dataflow, receiver, system_of, out_edges}
 use Rattle.fw_flow.specs.WellFormed.{IsWellFormedSystem}
+use Rattle.fw_model.specs.Carried.{carried_recs}
 use Rattle.fw_model.specs.History.{injected_count}
 use Rattle.fw_model.specs.Machine.{Machine, events, front_of}
 use Rattle.fw_model.specs.Reached.{IsReached}
@@ -42,14 +43,15 @@ pub record AreReady (flow : Dataflow) (traces : Traces) : Type 0 where
   pub lists : HaveLists flow traces
   pub ready : traces.refused ≡ false
 
--- what is told of a stamp at which the sender of these edges sent on each
-abbrev pub sendings : List ℕ → Stamp → List Recall
-sendings es t = map (λ e. of_sending e t) es
+-- what is told of an edge by a batch of these recs at a stamp: the stamp, if the edge carries one of them
+abbrev pub sending_on : Dataflow → List Rec → Stamp → ℕ → List Recall
+sending_on flow rs t e = if nat_lt 0 (length (carried_recs flow e rs)) then of_sending e t ∷ [] else []
 
--- what a batch of input p tells: its epoch on each of its out-edges, if it has a rec and the epoch lies outside the low watermark
+-- what a batch of input p tells: its epoch on each of its out-edges that carries one of its recs, if the epoch lies outside the low
+-- watermark
 abbrev pub recalls_of_batch : Dataflow → ℕ → Front → List (List Rec) → ℕ → List Recall
 recalls_of_batch flow p low batches x =
-    if nat_lt 0 (length (slice_index_or batches x [])) && not (inside low (x ∷ [])) then sendings (out_edges flow p) (x ∷ []) else []
+    if inside low (x ∷ []) then [] else flat_map (sending_on flow (slice_index_or batches x []) (x ∷ [])) (out_edges flow p)
 
 -- what the first n batches of input p tell
 abbrev pub recalls_of_input : Dataflow → ℕ → Front → List (List Rec) → ℕ → List Recall

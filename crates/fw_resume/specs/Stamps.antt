@@ -1,15 +1,15 @@
 -- Stamps that are got back from what a checkpoint covers, edge by edge.
-use Rattle.std.specs.Prelude.{◌≡◌, ℕ, true, false, List, [], ◌∷◌, ◌++◌, map, Option, Some, None}
-use Rattle.std.specs.List.{AllByRecursion, flat_map}
+use Rattle.std.specs.Prelude.{◌≡◌, ℕ, ◌<◌, true, List, [], ◌∷◌, ◌++◌, length, map}
+use Rattle.std.specs.List.{AllByRecursion}
 use Rattle.fw_time.specs.Stamp.{Stamp}
 use Rattle.fw_flow.specs.declared.choice.Counted.{Counted}
 use Rattle.fw_flow.specs.declared.choice.OfEdge.{OfEdge}
 use Rattle.fw_flow.specs.declared.choice.Recorded.{Recorded}
 use Rattle.fw_flow.specs.Kind.{Kind}
-use Rattle.fw_flow.specs.declared.kind.Kind.TheVariants.{Sequence}
-use Rattle.fw_flow.specs.Dataflow.{Dataflow, bounds_of, is_one_of, kind_of, receiver, send_stamp}
+use Rattle.fw_flow.specs.declared.kind.Kind.TheVariants.{Leave, Sequence, Regroup}
+use Rattle.fw_flow.specs.Dataflow.{Dataflow, bounds_of, is_one_of, kind_of, receiver}
 use Rattle.fw_model.specs.Offers.{counted_on_edge, front_of_edge}
-use Rattle.fw_regain.specs.Causes.{cause_told, merges_stamps}
+use Rattle.fw_regain.specs.Causes.{cause_told}
 use Rattle.fw_regain.specs.Greatest.{AreGreatestIn}
 
 -- Messages on these edges: on each of them such ones, and on others none.
@@ -34,19 +34,16 @@ cause_back kind u = cause_told kind u
 abbrev pub sent_at : Kind → ℕ → Stamp → Counted
 sent_at kind e u = record { edge = e; at = u; causes = cause_back kind u ∷ []; count = 1 }
 
--- a message from this stamp on an edge, where one is sent
-abbrev pub sent_from : ℕ → Stamp → Option Stamp → List Counted
-sent_from e t None = []
-sent_from e t (Some u) = record { edge = e; at = u; causes = t ∷ []; count = 1 } ∷ []
+-- a stamp at which a node of the kind sends is as long as its cause asks: where a loop is left it has a place for the counter, and an
+-- epoch of regrouped numbers has one coordinate
+abbrev pub HasLengthFor : Kind → Stamp → Type 0
+HasLengthFor (Leave l) u = length u < 4
+HasLengthFor (Regroup n) u = length u ≡ 1
+HasLengthFor kind u = Unit {0}
 
--- a message of node p on an edge from each of these
-abbrev pub merged_from : Dataflow → ℕ → ℕ → List Counted → List Counted
-merged_from flow p e ms = flat_map (λ (m : Counted). sent_from e m.at (send_stamp flow p m.at)) ms
-
--- What node p sent on edge e is got back, where this was delivered to it.
-pub record AreSentBack (flow : Dataflow) (p : ℕ) (r : Recorded) (delivered : List Counted) (e : ℕ) (ms : List Counted) : Type 0 where
-  pub told : merges_stamps (kind_of flow p) ≡ false → (tops : List Stamp) × AreGreatestOn flow e r.discarded tops × (ms ≡ map (sent_at (kind_of flow p) e) tops)
-  pub merged : merges_stamps (kind_of flow p) ≡ true → ms ≡ merged_from flow p e delivered
+-- what node p sent on edge e is got back: at the greatest stamps inside the cover
+abbrev pub AreSentBack : Dataflow → ℕ → Recorded → ℕ → List Counted → Type 0
+AreSentBack flow p r e ms = (tops : List Stamp) × AreGreatestOn flow e r.discarded tops × (ms ≡ map (sent_at (kind_of flow p) e) tops)
 
 -- There are these messages more, of one edge.
 pub record HasMoreOn (P : ℕ → List Counted → Type 0) (e : ℕ) (old new : List Counted) : Type 0 where

@@ -1,14 +1,12 @@
 //! Where a node's events are and where they sent, got back from what its checkpoint covers.
-ghost use Rattle.std.specs.Prelude.{◌≡◌, ◌<◌, ◌++◌, ◌∷◌, [], true, false, map, length, IfOk, OnOk};
+ghost use Rattle.std.specs.Prelude.{◌≡◌, ◌<◌, ◌++◌, ◌*◌, ◌∷◌, [], min, true, false, map, length, IfOk, OnOk};
 ghost use Rattle.std.specs.List.{AllByRecursion};
-ghost use Rattle.fw_time.specs.Stamp.{in_domain};
-ghost use Rattle.fw_flow.specs.Dataflow.{bounds_of, kind_of, policy_of, receiver, sender, in_edges, out_edges};
+ghost use Rattle.fw_flow.specs.Dataflow.{greatest_number, kind_of, policy_of, receiver, sender, in_edges, out_edges};
 ghost use Rattle.fw_flow.specs.Restoring.{can_resend};
 ghost use Rattle.fw_progress.specs.StampData.{message_at};
-ghost use Rattle.fw_regain.specs.Causes as causes;
 ghost use Rattle.fw_regain.specs.GotBack.{AreGotBack};
 ghost use Rattle.fw_resume.specs.Stamps as spec;
-ghost use Rattle.fw_resume.specs.Stamps.{AreDeliveredBack, AreGreatestOn, AreOnEdges, AreSentBack, HasMoreOn};
+ghost use Rattle.fw_resume.specs.Stamps.{AreDeliveredBack, AreGreatestOn, AreOnEdges, AreSentBack, HasMoreOn, HasLengthFor};
 
 use fw_flow::laws::flow_is_well_formed;
 use fw_flow::{
@@ -30,7 +28,7 @@ pub(crate) fn stamps_of(
     flow_is_well_formed(flow);
     let delivered = delivered_back(alloc, flow, node, recorded)?;
     let notified = recorded.notified.greatest(&flow.domain(node))?;
-    let sent = sent_if_told(alloc, flow, node, recorded, &delivered)?;
+    let sent = sent_if_told(alloc, flow, node, recorded)?;
     Ok(Stamps {
         delivered: CountedMessages::of(delivered),
         notified: Notices::of(notified),
@@ -75,17 +73,15 @@ fn sent_if_told(
     flow: &Flow,
     node: NodeId,
     recorded: &Recorded,
-    delivered: &[Counted],
 ) -> Result<Vec<Counted>, AllocError>
-    requires { AllByRecursion (λ m. in_domain (bounds_of flow.now node) m.at ≡ true) delivered.now }
     ensures told { can_resend (policy_of flow.now node) ≡ false
-        → IfOk result (λ ms. AreOnEdges (AreSentBack flow.now node recorded.now delivered.now) (out_edges flow.now node) ms.items) }
+        → IfOk result (λ ms. AreOnEdges (AreSentBack flow.now node recorded.now) (out_edges flow.now node) ms.items) }
     ensures none { can_resend (policy_of flow.now node) ≡ true → IfOk result (λ ms. ms.items ≡ []) }
 {
     if flow.policy(node).can_resend() {
         return Ok(Vec::new(alloc));
     }
-    sent_back(alloc, flow, node, recorded, delivered)
+    sent_back(alloc, flow, node, recorded)
 }
 
 /// What was sent on the out-edges. The error is want of memory.
@@ -94,47 +90,32 @@ fn sent_back(
     flow: &Flow,
     node: NodeId,
     recorded: &Recorded,
-    delivered: &[Counted],
 ) -> Result<Vec<Counted>, AllocError>
-    requires { AllByRecursion (λ m. in_domain (bounds_of flow.now node) m.at ≡ true) delivered.now }
-    ensures { IfOk result (λ ms. AreOnEdges (AreSentBack flow.now node recorded.now delivered.now) (out_edges flow.now node) ms.items) }
+    ensures { IfOk result (λ ms. AreOnEdges (AreSentBack flow.now node recorded.now) (out_edges flow.now node) ms.items) }
 {
     let mut messages = Vec::new(alloc);
     for edge in flow.out_edges(node) {
-        add_sent(&mut messages, flow, node, *edge, recorded, delivered)?;
+        add_sent(&mut messages, flow, node, *edge, recorded)?;
     }
     Ok(messages)
 }
 
-/// What was sent on an edge, behind the others: at the greatest stamps that are covered, or where several stamps send at one, at what
-/// was delivered. The error is want of memory.
+/// What was sent on an edge, behind the others: at the greatest stamps that are covered. The error is want of memory.
 fn add_sent(
     messages: &mut Vec<Counted>,
     flow: &Flow,
     node: NodeId,
     edge: EdgeId,
     recorded: &Recorded,
-    delivered: &[Counted],
 ) -> Result<(), AllocError>
-    requires { AllByRecursion (λ m. in_domain (bounds_of flow.now node) m.at ≡ true) delivered.now }
-    ensures { OnOk result (HasMoreOn (AreSentBack flow.now node recorded.now delivered.now) edge messages.old.items messages.new.items) }
+    requires { sender flow.now edge ≡ node }
+    ensures { OnOk result (HasMoreOn (AreSentBack flow.now node recorded.now) edge messages.old.items messages.new.items) }
 {
-    let kind = flow.kind(node);
-    if merges_stamps(&kind) {
-        add_merged(messages, flow, node, edge, delivered)?;
-        return Ok(());
-    }
+    flow_is_well_formed(flow);
     let alloc = *messages.allocator();
     let tops = greatest_on(alloc, flow, edge, recorded.discarded.as_slice())?;
-    add_told(messages, &kind, edge, &tops)?;
+    add_told(messages, &flow.kind(node), edge, &tops)?;
     Ok(())
-}
-
-/// Whether several stamps of a node of the kind send at one: where a loop is left, and where numbers are regrouped.
-fn merges_stamps(kind: &Kind) -> bool
-    ensures { result ≡ causes.merges_stamps kind.now }
-{
-    matches!(kind, Kind::Leave(_) | Kind::Regroup(_))
 }
 
 /// A message on an edge at each of these stamps, of the cause that this tells. The error is want of memory.
@@ -144,7 +125,8 @@ fn add_told(
     edge: EdgeId,
     tops: &[Stamp],
 ) -> Result<(), AllocError>
-    requires { AllByRecursion (λ t. 0 < length t) tops.now }
+    requires some { AllByRecursion (λ t. 0 < length t) tops.now }
+    requires length { AllByRecursion (HasLengthFor kind.now) tops.now }
     ensures { OnOk result (messages.new.items ≡ messages.old.items ++ map (spec.sent_at kind.now edge) tops.now) }
 {
     for top in tops {
@@ -153,49 +135,29 @@ fn add_told(
     Ok(())
 }
 
-/// The stamp that a node of the kind sends from at this one; of a sequence, which does not tell it, the first epoch.
+/// The least stamp that a node of the kind sends from at this one; of a sequence, which does not tell it, the first epoch.
+#[tactic(auto, using(crate::proofs::StampLaws::cause_of_epoch))]
 fn cause_of(kind: &Kind, at: &Stamp) -> Stamp
-    requires { 0 < length at.now }
+    requires some { 0 < length at.now }
+    requires length { HasLengthFor kind.now at.now }
     ensures { result ≡ spec.cause_back kind.now at.now }
 {
     match kind {
         Kind::Enter(_) => at.outer(),
         Kind::Feedback(_) => at.outer().nest(at.counter().saturating_sub(1)),
+        Kind::Leave(_) => at.nest(0),
+        Kind::Regroup(size) => Stamp::new(&[first_number(*size, at.at(0))]),
         Kind::Sequence => Stamp::new(&[0]),
         _ => at.copy(),
     }
 }
 
-/// A message on an edge from each of these, at the stamp at which the node sends from theirs. The error is want of memory.
-fn add_merged(
-    messages: &mut Vec<Counted>,
-    flow: &Flow,
-    node: NodeId,
-    edge: EdgeId,
-    delivered: &[Counted],
-) -> Result<(), AllocError>
-    requires { AllByRecursion (λ m. in_domain (bounds_of flow.now node) m.at ≡ true) delivered.now }
-    ensures { OnOk result (messages.new.items ≡ messages.old.items ++ spec.merged_from flow.now node edge delivered.now) }
+/// The first number of an epoch of so many numbers, or the greatest number.
+fn first_number(size: u64, epoch: u32) -> u32
+    ensures { result ≡ min (epoch * size) greatest_number }
 {
-    for from in delivered {
-        add_one(messages, edge, flow.send_stamp(node, &from.at), &from.at)?;
-    }
-    Ok(())
-}
-
-/// A message on an edge from a stamp, where one is sent. The error is want of memory.
-fn add_one(
-    messages: &mut Vec<Counted>,
-    edge: EdgeId,
-    at: Option<Stamp>,
-    cause: &Stamp,
-) -> Result<(), AllocError>
-    ensures { OnOk result (messages.new.items ≡ messages.old.items ++ spec.sent_from edge cause.now at) }
-{
-    if let Some(at) = at {
-        messages.push(message(edge, at, cause))?;
-    }
-    Ok(())
+    let first = u64::from(epoch).saturating_mul(size);
+    u32::try_from(first).unwrap_or(u32::MAX)
 }
 
 /// A message on an edge, with one cause.

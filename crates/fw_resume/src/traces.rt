@@ -1,21 +1,22 @@
 //! Traces that start again: where inputs sent, and where the events are that writes log.
-ghost use Rattle.std.specs.Prelude.{◌≡◌, ◌<◌, ◌≤◌, ◌^◌, ◌++◌, ℕ, length, map, IfOk, OnOk};
+ghost use Rattle.std.specs.Prelude.{◌≡◌, ◌<◌, ◌≤◌, ◌^◌, ◌++◌, ◌∷◌, [], ℕ, nat_lt, length, map, IfOk, OnOk};
 ghost use Rattle.std.specs.List.{AllByRecursion, flat_map};
 ghost use Rattle.fw_keep.specs.declared.entry.Entry.{Entry as Write};
 ghost use Rattle.fw_lines.specs.Batches.{batches_at};
-ghost use Rattle.fw_flow.specs.Dataflow.{system_of, HasEpochs};
+ghost use Rattle.fw_flow.specs.Dataflow.{out_edges, system_of, HasEpochs};
 ghost use Rattle.fw_flow.specs.WellFormed.{IsWellFormedSystem};
+ghost use Rattle.fw_model.specs.Carried.{carried_recs};
 ghost use Rattle.fw_model.specs.Machine.{Machine, events};
 ghost use Rattle.fw_model.specs.Reached.{IsReached};
 ghost use Rattle.fw_progress.specs.Counts.{AreCounts};
 ghost use Rattle.fw_progress.specs.History.{IsCountOf};
 ghost use Rattle.fw_stands.specs.Written.{AreEntriesOf, uncollected};
 ghost use Rattle.fw_running.specs.Held.{KnowsTracesHeld};
-ghost use Rattle.fw_resume.specs.Recalled.{AreReady, HaveRecalled, RecallsAreOf, recalls_of_batch, recalls_of_entry, recalls_of_event};
+ghost use Rattle.fw_resume.specs.Recalled.{AreReady, HaveRecalled, RecallsAreOf, recalls_of_batch, recalls_of_entry, recalls_of_event, sending_on};
 ghost use Rattle.fw_resume.specs.Recalled.{recalls_of_input, recalls_of_inputs};
 
 use fw_bag::Bag;
-use fw_flow::{Flow, NodeId};
+use fw_flow::{EdgeId, Flow, NodeId};
 use fw_frontier::Front;
 use fw_keep::{Entry, Written};
 use fw_lines::Batches;
@@ -130,7 +131,8 @@ fn recall_input(
     Ok(())
 }
 
-/// The epoch of a batch is told, if it has a rec and lies outside the low watermark. The error is want of memory.
+/// The epoch of a batch is told of each out-edge that carries one of its recs, if it lies outside the low watermark. The error is want
+/// of memory.
 fn recall_batch(
     traces: &mut Traces,
     flow: &Flow,
@@ -148,10 +150,61 @@ fn recall_batch(
     let Some(batch) = batches.get(epoch as usize) else {
         return Ok(());
     };
-    if batch.is_empty() || low.contains(&Stamp::new(&[epoch as u32])) {
+    if low.contains(&Stamp::new(&[epoch as u32])) {
         return Ok(());
     }
-    traces.recall_batch(flow, node, epoch as u32)
+    recall_out(traces, flow, node, batch, epoch as u32)
+}
+
+/// The epoch of a batch is told of each out-edge that carries one of its recs. The error is want of memory.
+fn recall_out(
+    traces: &mut Traces,
+    flow: &Flow,
+    node: NodeId,
+    batch: &Bag,
+    epoch: u32,
+) -> Result<(), AllocError>
+    requires { AreReady flow.now traces.old }
+    ensures ready { OnOk result (AreReady flow.now traces.new) }
+    ensures recalled { OnOk result
+        (HaveRecalled (flat_map (sending_on flow.now batch.now.recs (epoch ∷ [])) (out_edges flow.now node)) traces.old traces.new) }
+{
+    let edges = flow.out_edges(node);
+    for edge in edges {
+        recall_on(traces, flow, *edge, batch, epoch)?;
+    }
+    Ok(())
+}
+
+/// The epoch of a batch is told of an edge, if this carries one of its recs. The error is want of memory.
+fn recall_on(
+    traces: &mut Traces,
+    flow: &Flow,
+    edge: EdgeId,
+    batch: &Bag,
+    epoch: u32,
+) -> Result<(), AllocError>
+    requires ready { AreReady flow.now traces.old }
+    requires there { edge < length flow.now.edges }
+    ensures ready { OnOk result (AreReady flow.now traces.new) }
+    ensures recalled { OnOk result (HaveRecalled (sending_on flow.now batch.now.recs (epoch ∷ []) edge) traces.old traces.new) }
+{
+    if !carries_any(flow, edge, batch) {
+        return Ok(());
+    }
+    traces.recall_sent(flow, edge, epoch)
+}
+
+/// Whether an edge carries one of the recs of a batch.
+fn carries_any(flow: &Flow, edge: EdgeId, batch: &Bag) -> bool
+    ensures { result ≡ nat_lt 0 (length (carried_recs flow.now edge batch.now.recs)) }
+{
+    for rec in batch {
+        if flow.carries(edge, &rec) {
+            return true;
+        }
+    }
+    false
 }
 
 /// The events are told that these writes log. The error is want of memory.

@@ -1,6 +1,6 @@
 -- What logs hold: as bags, in order.
 use Rattle.std.proofs.Common.{◌≡◌, ◌≢◌, ℕ, ◌+◌, ◌<◌, Bool, true, false, not, ◌==◌, List, [], ◌∷◌, ◌++◌, filter, map, length, take, get_or, refl, sym, ap, subst, ◌∙◌, inl, inr, arith}
-use Rattle.std.proofs.lemmas.Bool.{cases_eq, eqb-true, eq-eqb, ne_eqb, or_cases, false≢true, or_parts}
+use Rattle.std.proofs.lemmas.Bool.{cases_Bool, cases_eq, eqb-true, eq-eqb, ne_eqb, or_cases, false≢true, or_parts}
 use Rattle.std.proofs.lemmas.List.{append-nil, take_more, map-append}
 use Rattle.std.proofs.lemmas.List.Elements.{filter-append}
 use Rattle.std.proofs.lemmas.List.Folds.{list_any_more}
@@ -10,8 +10,11 @@ use Rattle.fw_lemmas.proofs.Filters.{filter-in, filter-out}
 use Rattle.fw_frontier.specs.Front.{Front, inside}
 use Rattle.fw_flow.specs.declared.event.Message.{Message}
 use Rattle.fw_flow.specs.Dataflow.{Dataflow, receiver}
+use Rattle.fw_flow.specs.KeyParts.{is_carried}
+use Rattle.fw_model.specs.Carried.{carried}
 use Rattle.fw_model.specs.Machine.{front_of}
 use Rattle.fw_model.specs.SortedMessages.{with_message, with_messages, sorted_messages}
+use Rattle.fw_model.proofs.CarriedLaws.{carried-append, carried-in, carried-out}
 use Rattle.fw_model.proofs.SentLaws.{copy}
 use Rattle.fw_model.proofs.SortedLaws.{same_sorted_messages, sorted_messages-filter, sorted_messages-weigh}
 use Rattle.fw_model.proofs.WeightLaws.{weigh, weigh-append}
@@ -121,29 +124,42 @@ recorded-others rs i d first now next l at before others e a =
 
 -- ---- what an event sends
 
--- one more of what it sends is logged
+-- one more of what it sends is logged, if the edge carries it
 pub sent-more : (flow : Dataflow) (low : List Front) (edge : ℕ) (sent : List Message) (i : ℕ) (d : Message) (first now next : List MessagesState)
     → i < length sent
-    → ((ms : List Message) → on_edge first edge ≡ log_of flow low edge ms → on_edge now edge ≡ log_of flow low edge (take i sent ++ ms))
-    → ((ms : List Message) → on_edge now edge ≡ log_of flow low edge ms → on_edge next edge ≡ log_of flow low edge (get_or sent i d ∷ ms))
-    → (ms : List Message) → on_edge first edge ≡ log_of flow low edge ms → on_edge next edge ≡ log_of flow low edge (take (i + 1) sent ++ ms)
+    → ((ms : List Message) → on_edge first edge ≡ log_of flow low edge ms → on_edge now edge ≡ log_of flow low edge (carried flow edge (take i sent) ++ ms))
+    → ((ms : List Message) → on_edge now edge ≡ log_of flow low edge ms → on_edge next edge ≡ log_of flow low edge (carried flow edge (get_or sent i d ∷ []) ++ ms))
+    → (ms : List Message) → on_edge first edge ≡ log_of flow low edge ms → on_edge next edge ≡ log_of flow low edge (carried flow edge (take (i + 1) sent) ++ ms)
 sent-more flow low edge sent i d first now next l before here ms h =
-    let earlier = take i sent in
-    here (earlier ++ ms) (before ms h) ∙ log_of-middle flow low edge earlier (get_or sent i d) ms
-    ∙ ap (λ (xs : List Message). log_of flow low edge (xs ++ ms)) (sym (take_more sent i d l))
+    let m = get_or sent i d in
+    let earlier = carried flow edge (take i sent) in
+    let more : carried flow edge (take (i + 1) sent) ≡ earlier ++ carried flow edge (m ∷ []) =
+    ap (carried flow edge) (take_more sent i d l) ∙ carried-append flow edge (take i sent) (m ∷ []) in
+    let log : List Message → MessagesState = log_of flow low edge in
+    here (earlier ++ ms) (before ms h)
+    ∙ elim (cases_Bool (is_carried flow edge m.rec)) [
+      | inl k ↦
+          let one = carried-in flow edge m k in
+          ap (λ (xs : List Message). log (xs ++ (earlier ++ ms))) one ∙ log_of-middle flow low edge earlier m ms
+          ∙ ap (λ (xs : List Message). log (xs ++ ms)) (sym (more ∙ ap (λ (xs : List Message). earlier ++ xs) one))
+      | inr k ↦
+          let none = carried-out flow edge m k in
+          ap (λ (xs : List Message). log (xs ++ (earlier ++ ms))) none
+          ∙ ap (λ (xs : List Message). log (xs ++ ms)) (sym (more ∙ ap (λ (xs : List Message). earlier ++ xs) none ∙ append-nil earlier))
+    ]
 
--- an edge more of a node has what it sends
+-- an edge more of a node has what it carries of what this sends
 pub edges-more : (flow : Dataflow) (low : List Front) (sent : List Message) (ds : List ℕ) (i d : ℕ) (first now next : List MessagesState)
     → i < length ds → d ≡ get_or ds i d → AreAscending ds
-    → ((e : ℕ) → is_id_among e (take i ds) ≡ true → (ms : List Message) → on_edge first e ≡ log_of flow low e ms → on_edge now e ≡ log_of flow low e (sent ++ ms))
+    → ((e : ℕ) → is_id_among e (take i ds) ≡ true → (ms : List Message) → on_edge first e ≡ log_of flow low e ms → on_edge now e ≡ log_of flow low e (carried flow e sent ++ ms))
     → ((e : ℕ) → is_id_among e (take i ds) ≡ false → on_edge now e ≡ on_edge first e)
-    → ((ms : List Message) → on_edge now d ≡ log_of flow low d ms → on_edge next d ≡ log_of flow low d (sent ++ ms))
+    → ((ms : List Message) → on_edge now d ≡ log_of flow low d ms → on_edge next d ≡ log_of flow low d (carried flow d sent ++ ms))
     → ((e : ℕ) → e ≢ d → on_edge next e ≡ on_edge now e)
-    → (e : ℕ) → is_id_among e (take (i + 1) ds) ≡ true → (ms : List Message) → on_edge first e ≡ log_of flow low e ms → on_edge next e ≡ log_of flow low e (sent ++ ms)
+    → (e : ℕ) → is_id_among e (take (i + 1) ds) ≡ true → (ms : List Message) → on_edge first e ≡ log_of flow low e ms → on_edge next e ≡ log_of flow low e (carried flow e sent ++ ms)
 edges-more flow low sent ds i d first now next l at rises before left here others e among ms h =
     elim (cases_eq d e) [
       | inl s ↦
-          let P : ℕ → Type 0 = λ x. (ns : List Message) → on_edge now x ≡ log_of flow low x ns → on_edge next x ≡ log_of flow low x (sent ++ ns) in
+          let P : ℕ → Type 0 = λ x. (ns : List Message) → on_edge now x ≡ log_of flow low x ns → on_edge next x ≡ log_of flow low x (carried flow x sent ++ ns) in
           let here_e : P e = subst P s here in
           let new : is_id_among e (take i ds) ≡ false = ap (λ x. is_id_among x (take i ds)) (sym s ∙ at) ∙ not_among_earlier ds i d l rises in
           here_e ms (left e new ∙ h)

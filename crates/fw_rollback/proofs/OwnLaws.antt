@@ -10,6 +10,8 @@ use Rattle.fw_flow.specs.Dataflow.{Dataflow, bounds_of, sender, receiver}
 use Rattle.fw_model.specs.Filtering.{messages_outside}
 use Rattle.fw_model.specs.Machine.{front_of}
 use Rattle.fw_model.proofs.SortedLaws.{each-sorted_messages}
+use Rattle.fw_model.specs.Carried.{carried}
+use Rattle.fw_model.proofs.CarriedLaws.{carried-each}
 use Rattle.fw_edge.specs.Messages.{MessagesState}
 use Rattle.fw_node.proofs.MessageLaws.{messages-at, messages-each_cause}
 use Rattle.fw_node.specs.NodeOf.{CanBeSent, stamps_of}
@@ -34,17 +36,17 @@ own-none flow low p logs h e l s = record { messages = []; own = tt; is = h e l 
 pub own-more : {T E : Type 0} (flow : Dataflow) (low : List Front) (p : ℕ) (cause : Stamp) (sends : Sends) (old new : List MessagesState) (r : Result T E)
     → in_domain (bounds_of flow p) cause ≡ true → CanBeSent flow p (stamps_of sends) → AreLogsOfOwn flow low p old
     → ((e : ℕ) → e < length flow.edges → sender flow e ≡ p → (ms : List Message) → on_edge old e ≡ log_of flow low e ms
-    → OnOk r (on_edge new e ≡ log_of flow low e (messages_of cause sends ++ ms)))
+    → OnOk r (on_edge new e ≡ log_of flow low e (carried flow e (messages_of cause sends) ++ ms)))
     → OnOk r (AreLogsOfOwn flow low p new)
 own-more flow low p cause sends old new (Err x) c can own logged = tt
 own-more flow low p cause sends old new (Ok x) c can own logged = λ e l s.
     let before = own e l s in
     record {
-      messages = messages_of cause sends ++ before.messages;
-      own = each-append (IsOnEdge flow e) (messages_of cause sends) before.messages
-          (messages-own flow e (messages_of cause sends)
+      messages = carried flow e (messages_of cause sends) ++ before.messages;
+      own = each-append (IsOnEdge flow e) (carried flow e (messages_of cause sends)) before.messages
+          (carried-each flow e (IsOnEdge flow e) (messages_of cause sends) (messages-own flow e (messages_of cause sends)
           (messages-each_cause (λ t. in_domain (bounds_of flow (sender flow e)) t ≡ true) cause sends (subst (λ q. in_domain (bounds_of flow q) cause ≡ true) (sym s) c))
-          (subst (AllByRecursion (λ t. in_domain (bounds_of flow (receiver flow e)) t ≡ true)) (sym (messages-at cause sends)) (can e l s)))
+          (subst (AllByRecursion (λ t. in_domain (bounds_of flow (receiver flow e)) t ≡ true)) (sym (messages-at cause sends)) (can e l s))))
           before.own;
       is = logged e l s before.messages before.is;
     }

@@ -13,6 +13,9 @@ use Rattle.fw_flow.specs.Dataflow.{Dataflow, System, sender, kind_of, in_edges, 
 use Rattle.fw_flow.specs.NodeFunction.{sends, sent_by}
 use Rattle.fw_record.specs.declared.record.Event.{Event as LoggedEvent}
 use Rattle.fw_record.specs.declared.record.Event.TheVariants as logged
+use Rattle.fw_model.specs.Carried.{carried}
+use Rattle.fw_model.proofs.CarriedLaws.{carried-append, carried-none}
+use Rattle.fw_model.proofs.SortedLaws.{sorted_messages-carried}
 use Rattle.fw_model.specs.Told.{is_told, IsSumOfTold}
 use Rattle.fw_node.specs.Answers.{caused_by}
 use Rattle.fw_node.specs.Arrived.{IsOneOf}
@@ -107,10 +110,12 @@ of_notice G flow p before at (Notify q t) l can f =
 -- what a notification is said to send is logged as what it sends
 pub notice-logged : (sys : System) (low : List Front) (e p : ℕ) (before : List Event) (at : Stamp) (sent ms : List Message)
     → sent ≡ caused_by at (notice_sends (kind_of sys.flow p) before at)
-    → log_of sys.flow low e (sent ++ ms) ≡ log_of sys.flow low e (sends sys p before (Notify p at) ++ ms)
+    → log_of sys.flow low e (carried sys.flow e sent ++ ms) ≡ log_of sys.flow low e (carried sys.flow e (sends sys p before (Notify p at)) ++ ms)
 notice-logged sys low e p before at sent ms is =
-    log_of-same sys.flow low e (sent ++ ms) (sends sys p before (Notify p at) ++ ms)
-    (sorted_messages-before sent (sends sys p before (Notify p at)) ms (ap sorted_messages is ∙ sym (notices_are_sends sys p before at)))
+    let all = sends sys p before (Notify p at) in
+    log_of-same sys.flow low e (carried sys.flow e sent ++ ms) (carried sys.flow e all ++ ms)
+    (sorted_messages-before (carried sys.flow e sent) (carried sys.flow e all) ms
+    (sorted_messages-carried sys.flow e sent ∙ ap (carried sys.flow e) (ap sorted_messages is ∙ sym (notices_are_sends sys p before at)) ∙ sym (sorted_messages-carried sys.flow e all)))
 
 -- ---- one event more
 
@@ -135,17 +140,18 @@ pub have_sent-more : {T E : Type 0} (flow : Dataflow) (low : List Front) (p : �
     (r : Result T E) (sent : List Message) → StandsForRedone flow p ls table → HaveSent flow low p ls old
     → ((batches : List (List (List Rec))) (before : List Event) (v : Event) → logged_events (v ∷ []) ≡ l ∷ [] → CanBeDone flow p (v ∷ before)
     → IsTableOf flow p (λ s. false) table before → (e : ℕ) (ms : List Message)
-    → log_of flow low e (sent ++ ms) ≡ log_of flow low e (sends (record { flow = flow; batches = batches }) p before v ++ ms))
-    → ((e : ℕ) → e < length flow.edges → sender flow e ≡ p → (ms : List Message) → on_edge old e ≡ log_of flow low e ms → OnOk r (on_edge new e ≡ log_of flow low e (sent ++ ms)))
+    → log_of flow low e (carried flow e sent ++ ms) ≡ log_of flow low e (carried flow e (sends (record { flow = flow; batches = batches }) p before v) ++ ms))
+    → ((e : ℕ) → e < length flow.edges → sender flow e ≡ p → (ms : List Message) → on_edge old e ≡ log_of flow low e ms → OnOk r (on_edge new e ≡ log_of flow low e (carried flow e sent ++ ms)))
     → OnOk r (HaveSent flow low p (ls ++ l ∷ []) new)
 have_sent-more flow low p ls l table old new (Err x) sent st have same logged = tt
 have_sent-more flow low p ls l table old new (Ok x) sent st have same logged = λ batches events a e k s.
     let h = latest_is flow p ls l events a in
     let sys : System = record { flow = flow; batches = batches } in
-    let before : List Message = sent_by sys p h.earlier in
+    let before : List Message = carried flow e (sent_by sys p h.earlier) in
     logged e k s before (have batches h.earlier h.again e k s)
     ∙ same batches h.earlier h.latest h.logged h.can (st h.earlier h.again) e before
-    ∙ ap (λ (vs : List Event). log_of flow low e (sent_by sys p vs)) (sym h.parts)
+    ∙ ap (log_of flow low e) (sym (carried-append flow e (sends sys p h.earlier h.latest) (sent_by sys p h.earlier)))
+    ∙ ap (λ (vs : List Event). log_of flow low e (carried flow e (sent_by sys p vs))) (sym h.parts)
 
 -- at first a node stands for nothing done, and empty logs have what nothing sent
 pub stands-none : (flow : Dataflow) (p : ℕ) (node : Node) → IsTableOf flow p (λ s. false) node [] → StandsForRedone flow p [] node
@@ -154,4 +160,5 @@ stands-none flow p node t events a = subst (λ (vs : List Event). IsTableOf flow
 pub have_sent-none : (flow : Dataflow) (low : List Front) (p : ℕ) (logs : List MessagesState) → HasLogs flow p logs (λ e. nothing_there) → HaveSent flow low p [] logs
 have_sent-none flow low p logs h batches events a e l s =
     let sys : System = record { flow = flow; batches = batches } in
-    h e l s ∙ ap (λ (vs : List Event). log_of flow low e (sent_by sys p vs)) (sym (none_done flow p events a))
+    h e l s ∙ ap (log_of flow low e) (sym (carried-none flow e))
+    ∙ ap (λ (vs : List Event). log_of flow low e (carried flow e (sent_by sys p vs))) (sym (none_done flow p events a))

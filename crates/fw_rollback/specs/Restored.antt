@@ -15,6 +15,7 @@ use Rattle.fw_flow.specs.declared.restoring.Restoring.TheVariants.{Batches, Boun
 use Rattle.fw_flow.specs.Dataflow.{Dataflow, kind_of, sender, receiver, bounds_of, node_frontier, is_notified_kind}
 use Rattle.fw_flow.specs.NodeFunction.{sent_by}
 use Rattle.fw_flow.specs.Restoring.{way_of}
+use Rattle.fw_model.specs.Carried.{carried}
 use Rattle.fw_model.specs.Choice.{cut_of}
 use Rattle.fw_model.specs.Filtering.{messages_outside, messages_from}
 use Rattle.fw_model.specs.Machine.{front_of}
@@ -63,11 +64,11 @@ HaveOwnMessages flow p logs = (e : ℕ) → e < length flow.edges → sender flo
 abbrev pub IsNew : Dataflow → ℕ → Node → Type 0
 IsNew flow p node = (settled : Stamp → Bool) → IsTableOf flow p settled node []
 
--- the logs of the edges from node p have what these logged events sent, done again
+-- the logs of the edges from node p have what each edge carries of what these logged events sent, done again
 abbrev pub HaveSent : Dataflow → List Front → ℕ → List LoggedEvent → List MessagesState → Type 0
 HaveSent flow low p logged logs =
     (batches : List (List (List Rec))) (events : List Event) → AreDoneAgain flow p logged events
-    → HasLogs flow p logs (λ e. log_of flow low e (sent_by (record { flow = flow; batches = batches }) p events))
+    → HasLogs flow p logs (λ e. log_of flow low e (carried flow e (sent_by (record { flow = flow; batches = batches }) p events)))
 
 -- The node stands for these logged events, if they can be done again, where f is settled, and the logs of its edges have what
 -- they sent. Whatever they are, the node is one of place p, and each message is one of its edge.

@@ -6,6 +6,7 @@ ghost use Rattle.fw_flow.specs.declared.event.Event.{Event as Done};
 ghost use Rattle.fw_flow.specs.declared.event.Message.{Message as Sent};
 ghost use Rattle.fw_flow.specs.Dataflow.{Dataflow, bounds_of, kind_of, sender, is_notified_kind, node_frontier};
 ghost use Rattle.fw_flow.specs.WellFormed.{IsWellFormed};
+ghost use Rattle.fw_model.specs.Carried.{carried};
 ghost use Rattle.fw_model.specs.Told.{AreToldInside};
 ghost use Rattle.fw_rollback.specs.Edges.{on_edge, nothing_there};
 ghost use Rattle.fw_node.specs.NodeOf.{IsNodeOf};
@@ -159,7 +160,7 @@ fn do_again(
     }
 }
 
-/// Logs what an event at the stamp sends, on each out-edge of its node.
+/// Logs what an event at the stamp sends, on each out-edge of its node what this carries.
 fn log_sends(
     flow: &Flow,
     node: NodeId,
@@ -171,7 +172,7 @@ fn log_sends(
     requires each { length logs.old ≡ length flow.now.edges }
     ensures logged { (e : ℕ) → e < length flow.now.edges → sender flow.now e ≡ node
         → (ms : List Sent) → on_edge logs.old e ≡ log_of flow.now low.now e ms
-        → OnOk result (on_edge logs.new e ≡ log_of flow.now low.now e (messages_of cause.now sends.now ++ ms)) }
+        → OnOk result (on_edge logs.new e ≡ log_of flow.now low.now e (carried flow.now e (messages_of cause.now sends.now) ++ ms)) }
     ensures others { (e : ℕ) → sender flow.now e ≢ node → on_edge logs.new e ≡ on_edge logs.old e }
     ensures each { length logs.new ≡ length logs.old }
 {
@@ -182,7 +183,7 @@ fn log_sends(
     Ok(())
 }
 
-/// Logs what an event at the stamp sends, on one edge.
+/// Logs what an edge carries of what an event at the stamp sends.
 fn log_each(
     flow: &Flow,
     edge: EdgeId,
@@ -193,7 +194,7 @@ fn log_each(
 ) -> Result<(), AllocError>
     requires { edge < length logs.old }
     ensures logged { (ms : List Sent) → on_edge logs.old edge ≡ log_of flow.now low.now edge ms
-        → OnOk result (on_edge logs.new edge ≡ log_of flow.now low.now edge (messages_of cause.now sends.now ++ ms)) }
+        → OnOk result (on_edge logs.new edge ≡ log_of flow.now low.now edge (carried flow.now edge (messages_of cause.now sends.now) ++ ms)) }
     ensures others { (e : ℕ) → e ≢ edge → on_edge logs.new e ≡ on_edge logs.old e }
     ensures each { length logs.new ≡ length logs.old }
 {
@@ -203,7 +204,7 @@ fn log_each(
     Ok(())
 }
 
-/// Logs the message at a place of what an event at the stamp sends, on one edge.
+/// Logs the message at a place of what an event at the stamp sends, if the edge carries it.
 fn log_at(
     flow: &Flow,
     edge: EdgeId,
@@ -217,12 +218,15 @@ fn log_at(
     requires place { place < length (messages_of cause.now sends.now) }
     ensures logged { (ms : List Sent) (d : Sent) → on_edge logs.old edge ≡ log_of flow.now low.now edge ms
         → OnOk result (on_edge logs.new edge
-        ≡ log_of flow.now low.now edge (slice_index_or (messages_of cause.now sends.now) place d ∷ ms)) }
+        ≡ log_of flow.now low.now edge (carried flow.now edge (slice_index_or (messages_of cause.now sends.now) place d ∷ []) ++ ms)) }
     ensures others { (e : ℕ) → e ≢ edge → on_edge logs.new e ≡ on_edge logs.old e }
     ensures each { length logs.new ≡ length logs.old }
 {
     let Some(message) = sends.message(place, cause) else {
         unreachable!()
     };
+    if !flow.carries(edge, &message.rec) {
+        return Ok(());
+    }
     log_outside(flow, low, edge, message, logs)
 }

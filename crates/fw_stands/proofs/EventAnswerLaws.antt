@@ -1,38 +1,30 @@
 -- What a node answers is what it sends.
-use Rattle.std.proofs.Common.{◌≡◌, ℕ, zero, suc, ◌+◌, ◌==◌, true, List, [], ◌∷◌, length, map, get_or, Option, Some, None, refl, sym, ap, ◌∙◌, inl, inr, arith, slice_index_or}
+use Rattle.std.proofs.Common.{◌≡◌, ℕ, ◌==◌, true, List, [], ◌∷◌, map, get_or, refl, sym, ap, ◌∙◌, inl, inr, slice_index_or}
 use Rattle.std.proofs.lemmas.Bool.{cases_Bool, cond-false, cond-true, eqb-true}
 use Rattle.fw_time.specs.Stamp.{Stamp}
 use Rattle.fw_bag.specs.declared.rec.Rec.{Rec}
-use Rattle.fw_bag.specs.Keyed.{sorted_recs}
-use Rattle.fw_bag.proofs.BagLaws.{length-bag_sum}
 use Rattle.fw_flow.specs.declared.event.Event.{Event}
 use Rattle.fw_flow.specs.declared.event.Event.TheVariants.{Inject, Notify}
 use Rattle.fw_flow.specs.declared.event.Message.{Message}
 use Rattle.fw_flow.specs.Kind.{Kind}
 use Rattle.fw_flow.specs.declared.kind.Kind.TheVariants as kind
-use Rattle.fw_flow.specs.Dataflow.{System, batches_of, sender, kind_of, send_stamp_of_kind, is_input_kind, is_output_kind}
-use Rattle.fw_flow.specs.NodeFunction.{event_node, messages_at, messages_at_some, numbered_messages, recs_on_notification, sends, sends_of_kind, sequence_sent}
+use Rattle.fw_flow.specs.Dataflow.{System, batches_of, sender, kind_of, is_input_kind, is_output_kind}
+use Rattle.fw_flow.specs.NodeFunction.{event_node, messages_at, sends, sends_of_kind}
 use Rattle.fw_flow.specs.Projection.{events_at}
 use Rattle.fw_model.proofs.LowLaws.{input-is}
 use Rattle.fw_model.specs.Carried.{carried}
 use Rattle.fw_model.specs.SortedMessages.{sorted_messages}
 use Rattle.fw_model.specs.LawsOfPending.{sent_on}
-use Rattle.fw_node.specs.Answers.{caused_by, without_causes}
+use Rattle.fw_node.specs.Answers.{caused_by}
 use Rattle.fw_node.specs.Sends.{notice_sends}
-use Rattle.fw_node.proofs.MessageLaws.{caused-at as caused-stamps}
 use Rattle.fw_node.proofs.NoticeLaws.{notices_are_sends}
 use Rattle.fw_stands.specs.Events.{sends_at, AreSent, at_epoch, put_on}
 
 -- ---- what is sent
 
--- the stamps of messages stay where the causes are left out
-stamps-without : (ms : List Message) → map (λ (x : Stamp × Rec). x.0) (without_causes ms) ≡ map (λ (m : Message). m.at) ms
-stamps-without [] = refl
-stamps-without (m ∷ ms) = ap (λ (ts : List Stamp). m.at ∷ ts) (stamps-without ms)
-
 -- what the node function gives is sent
 pub events-send : (sys : System) (h : List Event) (v : Event) → AreSent sys h v (sends_at sys h v)
-events-send sys h v = record { messages = refl; stamps = refl }
+events-send sys h v = refl
 
 -- what an event sends on an edge is what comes to it
 pub sent_on-put_on : (sys : System) (h : List Event) (v : Event) (e : ℕ) → sent_on sys h e v ≡ put_on sys.flow e v (sends_at sys h v)
@@ -47,49 +39,10 @@ sent_on-put_on sys h v e =
 
 -- ---- notifications
 
--- the stamp so many times
-abbrev times : ℕ → Stamp → List Stamp
-times zero t = []
-times (suc n) t = t ∷ times n t
-
-stamps-together : (t : Stamp) (rs : List Rec) → map (λ (x : Stamp × Rec). x.0) (map (λ (r : Rec). (t, r)) rs) ≡ times (length rs) t
-stamps-together t [] = refl
-stamps-together t (r ∷ rs) = ap (λ (ts : List Stamp). t ∷ ts) (stamps-together t rs)
-
-stamps-at : (t : Stamp) (rs : List Rec) → map (λ (m : Message). m.at) (messages_at t t rs) ≡ times (length rs) t
-stamps-at t [] = refl
-stamps-at t (r ∷ rs) = ap (λ (ts : List Stamp). t ∷ ts) (stamps-at t rs)
-
--- recs at one stamp and the same in order are at the same stamps
-stamps-sorted : (t : Stamp) (rs : List Rec)
-    → map (λ (x : Stamp × Rec). x.0) (map (λ (r : Rec). (t, r)) (sorted_recs rs)) ≡ map (λ (m : Message). m.at) (messages_at t t rs)
-stamps-sorted t rs =
-    let n : length (sorted_recs rs) ≡ length rs = omega (arith, length-bag_sum rs []) in
-    stamps-together t (sorted_recs rs) ∙ ap (λ k. times k t) n ∙ sym (stamps-at t rs)
-
-none-at_some : (at : Option Stamp) (t : Stamp) → [] ≡ map (λ (m : Message). m.at) (messages_at_some at t [])
-none-at_some None t = refl
-none-at_some (Some at) t = refl
-
-kind-stamps : (sys : System) (p : ℕ) (k : Kind) (before : List Event) (t : Stamp)
-    → map (λ (x : Stamp × Rec). x.0) (notice_sends k before t) ≡ map (λ (m : Message). m.at) (sends_of_kind sys k before (Notify p t))
-kind-stamps sys p kind.Sequence before t = stamps-without (numbered_messages (length (sequence_sent before)) t (recs_on_notification kind.Sequence before t))
-kind-stamps sys p (kind.Sum w) before t = stamps-sorted t (recs_on_notification (kind.Sum w) before t)
-kind-stamps sys p kind.Total before t = stamps-sorted t (recs_on_notification kind.Total before t)
-kind-stamps sys p k before t = none-at_some (send_stamp_of_kind sys.flow k t) t
-
-notice-stamps : (sys : System) (p : ℕ) (before : List Event) (t : Stamp)
-    → map (λ (x : Stamp × Rec). x.0) (notice_sends (kind_of sys.flow p) before t) ≡ map (λ (m : Message). m.at) (sends sys p before (Notify p t))
-unfolding sends
-notice-stamps sys p before t = kind-stamps sys p (kind_of sys.flow p) before t
-
 -- what a node answers to a notification is sent
 pub notices-send : (sys : System) (h : List Event) (p : ℕ) (t : Stamp)
     → AreSent sys h (Notify p t) (caused_by t (notice_sends (kind_of sys.flow p) (events_at sys.flow p h) t))
-notices-send sys h p t = record {
-  messages = sym (notices_are_sends sys p (events_at sys.flow p h) t);
-  stamps = caused-stamps t (notice_sends (kind_of sys.flow p) (events_at sys.flow p h) t) ∙ notice-stamps sys p (events_at sys.flow p h) t;
-}
+notices-send sys h p t = sym (notices_are_sends sys p (events_at sys.flow p h) t)
 
 -- ---- injections
 
@@ -112,11 +65,7 @@ pub injections-send : (sys : System) (h : List Event) (s x : ℕ) → is_input_k
     → AreSent sys h (Inject s x) (at_epoch x (slice_index_or (batches_of sys s) x []))
 injections-send sys h s x k =
     let rs = get_or (batches_of sys s) x [] in
-    let is = batch-sends sys s x (events_at sys.flow s h) k in
-    record {
-      messages = ap sorted_messages (one_cause-at (x ∷ []) rs ∙ sym is);
-      stamps = ap (λ ms. map (λ (m : Message). m.at) ms) (one_cause-at (x ∷ []) rs ∙ sym is);
-    }
+    ap sorted_messages (one_cause-at (x ∷ []) rs ∙ sym (batch-sends sys s x (events_at sys.flow s h) k))
 
 -- ---- outputs
 
@@ -133,8 +82,4 @@ output-sends sys p before v o = output-none sys (kind_of sys.flow p) before v o
 pub outputs-send_nothing : (sys : System) (h : List Event) (v : Event) → is_output_kind (kind_of sys.flow (event_node sys.flow v)) ≡ true
     → AreSent sys h v []
 outputs-send_nothing sys h v o =
-    let none = output-sends sys (event_node sys.flow v) (events_at sys.flow (event_node sys.flow v) h) v o in
-    record {
-      messages = ap sorted_messages (sym none);
-      stamps = ap (λ ms. map (λ (m : Message). m.at) ms) (sym none);
-    }
+    ap sorted_messages (sym (output-sends sys (event_node sys.flow v) (events_at sys.flow (event_node sys.flow v) h) v o))

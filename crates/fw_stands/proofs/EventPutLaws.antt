@@ -1,10 +1,13 @@
 -- For the loops that put what is sent into queues and logs: message by message, and out-edge by out-edge.
-use Rattle.std.proofs.Common.{◌≡◌, ℕ, zero, suc, ◌+◌, ◌<◌, Bool, true, false, not, ◌||◌, ◌==◌, cond, List, [], ◌∷◌, ◌++◌, length, get_or, take, Some, None, refl, sym, ap, ◌∙◌, inl, inr, arith}
+use Rattle.std.proofs.Common.{◌≡◌, ℕ, zero, suc, ◌+◌, ◌<◌, Bool, true, false, not, ◌&&◌, ◌||◌, ◌==◌, cond, List, [], ◌∷◌, ◌++◌, length, get_or, take, Option, Some, None, refl, sym, ap, ◌∙◌, inl, inr, arith}
 use Rattle.std.specs.Prelude.{filter, slice_get}
 use Rattle.std.proofs.lemmas.Bool.{cases_eq, cond-true, cond-false, cond_both, eq-eqb, eqb-true, false_from_ne_true}
 use Rattle.fw_frontier.specs.Front.{Front, inside}
 use Rattle.fw_flow.specs.declared.event.Message.{Message}
+use Rattle.fw_flow.specs.declared.key_part.KeyPart.{KeyPart}
 use Rattle.fw_flow.specs.Dataflow.{Dataflow, is_one_of, out_edges, sender}
+use Rattle.fw_flow.specs.KeyParts.{is_of_part_if}
+use Rattle.fw_model.specs.Carried.{messages_of_part}
 use Rattle.fw_model.specs.Filtering.{messages_outside}
 use Rattle.fw_model.specs.SortedMessages.{sorted_messages, with_message, with_messages}
 use Rattle.fw_progress.proofs.OutLaws.{among-out, out-among}
@@ -26,17 +29,6 @@ take-past (x ∷ ms) (suc i) k = ap (λ ys. x ∷ ys) (take-past ms i k)
 next : (ms : List Message) (i : ℕ) → take (i + 1) ms ≡ take (suc i) ms
 next ms i = let one : i + 1 ≡ suc i = omega arith in ap (λ n. take n ms) one
 
--- the message at the next place is put in
-pub put-step : (ms : List Message) (i : ℕ) (m : Message) (now new old : List Message) → sorted_messages old ≡ old → Some m ≡ slice_get ms i
-    → now ≡ with_messages (take i ms) old → new ≡ with_message m now → new ≡ with_messages (take (i + 1) ms) old
-put-step ms i m now new old s k e f =
-    f ∙ ap (with_message m) e ∙ sym (last-put_in (take i ms) m old s) ∙ ap (λ xs. with_messages xs old) (sym (next ms i ∙ take-suc ms i m (sym k)))
-
--- past the last place none is
-pub skip-step : (ms : List Message) (i : ℕ) (now new old : List Message) → None ≡ slice_get ms i
-    → now ≡ with_messages (take i ms) old → new ≡ now → new ≡ with_messages (take (i + 1) ms) old
-skip-step ms i now new old k e f = f ∙ e ∙ ap (λ xs. with_messages xs old) (sym (next ms i ∙ take-past ms i (sym k)))
-
 filter-last : (test : Message → Bool) (ms : List Message) (m : Message) → filter test (ms ++ m ∷ []) ≡ filter test ms ++ cond (test m) (m ∷ []) []
 filter-last test [] m = refl
 filter-last test (x ∷ ms) m =
@@ -48,29 +40,42 @@ append-none : (xs : List Message) → xs ++ [] ≡ xs
 append-none [] = refl
 append-none (x ∷ xs) = ap (λ ys. x ∷ ys) (append-none xs)
 
--- the message at the next place is logged, where it lies outside
-pub log-step : (f : Front) (ms : List Message) (i : ℕ) (m : Message) (now new old : List Message) → sorted_messages old ≡ old → Some m ≡ slice_get ms i → inside f m.at ≡ false
-    → now ≡ with_messages (messages_outside (inside f) (take i ms)) old → new ≡ with_message m now → new ≡ with_messages (messages_outside (inside f) (take (i + 1) ms)) old
-log-step f ms i m now new old s k o e g =
-    let out : Message → Bool = λ x. not (inside f x.at) in
+-- the message at the next place is put in, where it passes a test
+pub kept-step : (test : Message → Bool) (ms : List Message) (i : ℕ) (m : Message) (now new old : List Message) → sorted_messages old ≡ old → Some m ≡ slice_get ms i → test m ≡ true
+    → now ≡ with_messages (filter test (take i ms)) old → new ≡ with_message m now → new ≡ with_messages (filter test (take (i + 1) ms)) old
+kept-step test ms i m now new old s k o e g =
     let t = next ms i ∙ take-suc ms i m (sym k) in
-    let d = filter-last out (take i ms) m ∙ ap (λ b. filter out (take i ms) ++ cond (not b) (m ∷ []) []) o in
-    g ∙ ap (with_message m) e ∙ sym (last-put_in (filter out (take i ms)) m old s) ∙ sym (ap (λ xs. with_messages xs old) (ap (filter out) t ∙ d))
+    let d = filter-last test (take i ms) m ∙ ap (λ b. filter test (take i ms) ++ cond b (m ∷ []) []) o in
+    g ∙ ap (with_message m) e ∙ sym (last-put_in (filter test (take i ms)) m old s) ∙ sym (ap (λ xs. with_messages xs old) (ap (filter test) t ∙ d))
 
--- where it lies inside it is not
-pub log-inside : (f : Front) (ms : List Message) (i : ℕ) (m : Message) (now new old : List Message) → Some m ≡ slice_get ms i → inside f m.at ≡ true
-    → now ≡ with_messages (messages_outside (inside f) (take i ms)) old → new ≡ now → new ≡ with_messages (messages_outside (inside f) (take (i + 1) ms)) old
-log-inside f ms i m now new old k o e g =
-    let out : Message → Bool = λ x. not (inside f x.at) in
+-- where it does not it is not
+pub kept-skip : (test : Message → Bool) (ms : List Message) (i : ℕ) (m : Message) (now new old : List Message) → Some m ≡ slice_get ms i → test m ≡ false
+    → now ≡ with_messages (filter test (take i ms)) old → new ≡ now → new ≡ with_messages (filter test (take (i + 1) ms)) old
+kept-skip test ms i m now new old k o e g =
     let t = next ms i ∙ take-suc ms i m (sym k) in
-    let d = filter-last out (take i ms) m ∙ ap (λ b. filter out (take i ms) ++ cond (not b) (m ∷ []) []) o ∙ append-none (filter out (take i ms)) in
-    g ∙ e ∙ sym (ap (λ xs. with_messages xs old) (ap (filter out) t ∙ d))
+    let d = filter-last test (take i ms) m ∙ ap (λ b. filter test (take i ms) ++ cond b (m ∷ []) []) o ∙ append-none (filter test (take i ms)) in
+    g ∙ e ∙ sym (ap (λ xs. with_messages xs old) (ap (filter test) t ∙ d))
 
 -- past the last place none is
-pub log-past : (f : Front) (ms : List Message) (i : ℕ) (now new old : List Message) → None ≡ slice_get ms i
-    → now ≡ with_messages (messages_outside (inside f) (take i ms)) old → new ≡ now → new ≡ with_messages (messages_outside (inside f) (take (i + 1) ms)) old
-log-past f ms i now new old k e g =
-    g ∙ e ∙ sym (ap (λ xs. with_messages (messages_outside (inside f) xs) old) (next ms i ∙ take-past ms i (sym k)))
+pub kept-past : (test : Message → Bool) (ms : List Message) (i : ℕ) (now new old : List Message) → None ≡ slice_get ms i
+    → now ≡ with_messages (filter test (take i ms)) old → new ≡ now → new ≡ with_messages (filter test (take (i + 1) ms)) old
+kept-past test ms i now new old k e g = g ∙ e ∙ sym (ap (λ xs. with_messages (filter test xs) old) (next ms i ∙ take-past ms i (sym k)))
+
+-- of a part and then outside is both
+pub outside-part : (f : Front) (part : Option KeyPart) (ms : List Message)
+    → messages_outside (inside f) (messages_of_part part ms) ≡ filter (λ (m : Message). is_of_part_if part m.rec.key && not (inside f m.at)) ms
+outside-part f part [] = refl
+outside-part f part (m ∷ ms) = by (is_of_part_if part m.rec.key) (outside-part f part ms)
+  where
+    mine : List Message
+    mine = messages_of_part part ms
+
+    both : List Message
+    both = filter (λ (x : Message). is_of_part_if part x.rec.key && not (inside f x.at)) ms
+
+    by : (b : Bool) → messages_outside (inside f) mine ≡ both → messages_outside (inside f) (cond b (m ∷ mine) mine) ≡ cond (b && not (inside f m.at)) (m ∷ both) both
+    by true h = ap (λ xs. cond (not (inside f m.at)) (m ∷ xs) xs) h
+    by false h = h
 
 -- ---- out-edge by out-edge
 

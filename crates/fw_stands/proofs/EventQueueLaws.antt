@@ -78,7 +78,7 @@ put_on-sent sys h v sent s e = elim (cases_Bool (event_node sys.flow v == sender
       let new : ℕ → List Message = λ n. sends sys n (events_at sys.flow n h) v in
       ap sorted_messages (cond-true (p == q) (carried sys.flow e sent) [] k)
       ∙ sorted_messages-carried sys.flow e sent
-      ∙ ap (carried sys.flow e) s.messages
+      ∙ ap (carried sys.flow e) s
       ∙ sym (sorted_messages-carried sys.flow e (new p))
       ∙ ap (λ n. sorted_messages (carried sys.flow e (new n))) (eqb-true p q k)
       ∙ sym (ap sorted_messages (cond-true (p == q) (carried sys.flow e (new q)) [] k))

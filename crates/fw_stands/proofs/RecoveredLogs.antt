@@ -33,7 +33,7 @@ use Rattle.fw_model.specs.Machine.{Machine, events, family_of, front_of, is_fail
 use Rattle.fw_model.specs.Resending.{at_receiver, logged_messages}
 use Rattle.fw_model.specs.SortedMessages.{sorted_messages}
 use Rattle.fw_model.specs.Steps.{recovered_state}
-use Rattle.fw_model.proofs.CarriedLaws.{carried-all, carried-from, carried-none}
+use Rattle.fw_model.proofs.CarriedLaws.{carried-from, carried-none}
 use Rattle.fw_model.proofs.CauseLaws.{outside-sent}
 use Rattle.fw_model.proofs.LowLaws.{none-within}
 use Rattle.fw_model.proofs.ReplayLaws.{replayed-send, replayed-those}
@@ -145,11 +145,11 @@ outside-both f g w ms =
 full-resends : (p : Policy) → p ≡ policy.Full → can_resend p ≡ true
 full-resends p is = ap can_resend is
 
--- what the logged events that are left send is at stamps of the receiver
+-- what an edge carries of what the logged events that are left send is at stamps of the receiver
 replayed-at : (sys : System) (state : Machine) (choice : Choice) (settled : List Front) → Recovers sys state choice settled
     → (e : ℕ) → policy_of sys.flow (sender sys.flow e) ≡ policy.Full → (f : Front) → cut_of choice (sender sys.flow e) ≡ At f
     → AllByRecursion (λ (m : Message). in_domain (bounds_of sys.flow (receiver sys.flow e)) m.at ≡ true)
-    (sent_by sys (sender sys.flow e) (replayed_events sys state (sender sys.flow e) (node_frontier sys.flow (sender sys.flow e) f)))
+    (carried sys.flow e (sent_by sys (sender sys.flow e) (replayed_events sys state (sender sys.flow e) (node_frontier sys.flow (sender sys.flow e) f))))
 replayed-at sys state choice settled r e full f is =
     let w = r.well_formed.flow in
     let k = knows sys state choice settled r in
@@ -159,25 +159,28 @@ replayed-at sys state choice settled r e full f is =
     let g = not_given_up sys state.low p in
     let vs = events_at sys.flow p h in
     let P : Message → Type 0 = λ m. in_domain (bounds_of sys.flow (receiver sys.flow e)) m.at ≡ true in
-    let sent = subst (AllByRecursion P) (carried-all sys.flow e (sent_by sys p vs)) (legal-at sys h w k.epochs k.legal e) in
+    let sent : AllByRecursion P (carried sys.flow e (sent_by sys p vs)) = legal-at sys h w k.epochs k.legal e in
     let inside_cut : sent_by sys p (events_inside b vs) ≡ messages_from b (sent_by sys p vs) = part-sends sys h w k.epochs k.legal p b (frontier-closed (bounds_of sys.flow p) f) in
-    let cut_sent : AllByRecursion P (sent_by sys p (events_inside b vs)) =
-    subst (AllByRecursion P) (sym inside_cut) (each-kept P (λ m. all_inside b m.causes) (sent_by sys p vs) sent) in
-    subst (λ us. AllByRecursion P (sent_by sys p us))
+    let cut_sent : AllByRecursion P (carried sys.flow e (sent_by sys p (events_inside b vs))) =
+    subst (AllByRecursion P) (carried-from sys.flow e b (sent_by sys p vs) ∙ ap (carried sys.flow e) (sym inside_cut))
+    (each-kept P (λ m. all_inside b m.causes) (carried sys.flow e (sent_by sys p vs)) sent) in
+    subst (λ us. AllByRecursion P (carried sys.flow e (sent_by sys p us)))
     (sym (replayed-those sys r.well_formed r.reached.0 r.reached.1 state r.reached.2 (is_failed state) choice r.largest p f full is))
     (elim (cases_Bool (may_keep_nothing (kind_of sys.flow p))) [
-      | inl may ↦ subst (AllByRecursion P) (sym (passing-send sys p may g (events_inside b vs))) (each-kept P (λ m. all_inside g m.causes) (sent_by sys p (events_inside b vs)) cut_sent)
-      | inr must ↦ subst (λ us. AllByRecursion P (sent_by sys p us)) (sym (none_given-up sys state.low p must (events_inside b vs))) cut_sent
+      | inl may ↦
+          subst (AllByRecursion P) (carried-from sys.flow e g (sent_by sys p (events_inside b vs)) ∙ ap (carried sys.flow e) (sym (passing-send sys p may g (events_inside b vs))))
+          (each-kept P (λ m. all_inside g m.causes) (carried sys.flow e (sent_by sys p (events_inside b vs))) cut_sent)
+      | inr must ↦ subst (λ us. AllByRecursion P (carried sys.flow e (sent_by sys p us))) (sym (none_given-up sys state.low p must (events_inside b vs))) cut_sent
     ])
 
--- the log of a sender that logs its events and is cut is what the logged events that are left send inside the cut, but for what
--- lies inside the low watermark of the receiver
+-- the log of a sender that logs its events and is cut is what the edge carries of what the logged events that are left send inside the
+-- cut, but for what lies inside the low watermark of the receiver
 pub logs-from_replay : (sys : System) (state : Machine) (choice : Choice) (settled : List Front) → Recovers sys state choice settled
     → (e : ℕ) → e < length sys.flow.edges → policy_of sys.flow (sender sys.flow e) ≡ policy.Full
     → (f : Front) → cut_of choice (sender sys.flow e) ≡ At f
     → logged sys (recovered_state sys state choice settled) e
     ≡ sorted_messages (messages_outside (inside (front_of state.low (receiver sys.flow e)))
-    (sent_by sys (sender sys.flow e) (replayed_events sys state (sender sys.flow e) (node_frontier sys.flow (sender sys.flow e) f))))
+    (carried sys.flow e (sent_by sys (sender sys.flow e) (replayed_events sys state (sender sys.flow e) (node_frontier sys.flow (sender sys.flow e) f)))))
 logs-from_replay sys state choice settled r e l full f is =
     let p = sender sys.flow e in
     let q = receiver sys.flow e in
@@ -185,8 +188,7 @@ logs-from_replay sys state choice settled r e l full f is =
     logged-cut sys state choice settled r e (full-resends (policy_of sys.flow p) full) f is
     ∙ ap sorted_messages
     (sym (replayed-send sys r.well_formed r.reached.0 r.reached.1 state r.reached.2 (is_failed state) choice r.largest p f full is e l refl)
-    ∙ ap (messages_outside (at_receiver sys state.low e)) (carried-all sys.flow e (sent_by sys p (replayed_events sys state p b)))
-    ∙ outside-front sys.flow q (front_of state.low q) (sent_by sys p (replayed_events sys state p b)) (replayed-at sys state choice settled r e full f is))
+    ∙ outside-front sys.flow q (front_of state.low q) (carried sys.flow e (sent_by sys p (replayed_events sys state p b))) (replayed-at sys state choice settled r e full f is))
 
 -- ---- which nodes can send again
 

@@ -20,6 +20,8 @@ use Rattle.fw_flow.specs.Projection.{events_at}
 use Rattle.fw_model.specs.Choice.{IsCutWithin, cut_of, kept_of}
 use Rattle.fw_model.specs.Floors.{IsFloor}
 use Rattle.fw_model.specs.Covers.{set_of, stamp_of_notice}
+use Rattle.fw_model.specs.Alike.{StandForCauses}
+use Rattle.fw_model.proofs.AlikeLaws.{for-same}
 use Rattle.fw_model.specs.EventStamps.{AreStampsIf, StandForNumbered, StandForSent, base_of_sent, causes_in, tells_sent}
 use Rattle.fw_model.specs.Filtering.{kept_events, messages_from}
 use Rattle.fw_model.specs.History.{delivered_messages, sent_messages}
@@ -111,7 +113,8 @@ pub some-trace : (sys : System) (h : List Event) (p : ℕ) (base : Frontier) (tr
 some-trace sys h p base traces takes delivered notified sent t = record {
   delivered = λ d l r. some-thinned base (map (λ (m : Message). m.at) (delivered_messages h d)) (delivered_on traces d) (delivered d r) (t.delivered d l r);
   notified = some-thinned base (flat_map (stamp_of_notice p) h) (stamps_notified traces p) notified t.notified;
-  sent = λ d l r k. some-sent sys.flow p base (causes_in (sent_messages sys h d)) (stamps_where_sent traces d) (sent d r) (t.sent d l r k);
+  sent = λ d l r k. for-same sys.flow p false (base_of_sent sys.flow p base) (causes_in (sent_messages sys h d)) (stamps_where_sent traces d)
+      (some-sent sys.flow p base (causes_in (sent_messages sys h d)) (stamps_where_sent traces d) (sent d r) (t.sent d l r k));
   counted = λ c. absurd (two_ways (takes_checkpoints (policy_of sys.flow p)) c takes);
 }
 
@@ -211,8 +214,9 @@ no-stamps whole sys p base stamps a = record {
   sent = λ n e l s. subst (λ ms. StandForSent (whole && tells_sent sys.flow p) sys [] p (base_of_sent sys.flow p base) e (counted_on_edge e ms)) (sym a.sent)
       (record {
         of_cause = tt;
-        thinned = subst (λ ms. IsThinnedIf (whole && tells_sent sys.flow p) (base_of_sent sys.flow p base) (causes_in ms) []) (sym (carried-none sys.flow e))
-            (none-if (whole && tells_sent sys.flow p) (base_of_sent sys.flow p base) [] refl);
+        thinned = subst (λ ms. StandForCauses sys.flow p (whole && tells_sent sys.flow p) (base_of_sent sys.flow p base) (causes_in ms) []) (sym (carried-none sys.flow e))
+            (for-same sys.flow p (whole && tells_sent sys.flow p) (base_of_sent sys.flow p base) [] []
+            (none-if (whole && tells_sent sys.flow p) (base_of_sent sys.flow p base) [] refl));
       });
   numbered = λ n t e l s. subst (StandForNumbered sys [] e) (sym a.sent)
       (subst (λ ms. IsThinned (everything (bounds_of sys.flow (receiver sys.flow e))) (map (λ (m : Message). m.at) ms) []) (sym (carried-none sys.flow e))

@@ -24,6 +24,7 @@ use Rattle.fw_flow.specs.WellFormed.{IsWellFormedSystem}
 use Rattle.fw_model.specs.Carried.{carried}
 use Rattle.fw_model.specs.Choice.{kept_of}
 use Rattle.fw_model.specs.Covers.{stamp_of_notice}
+use Rattle.fw_model.specs.Alike.{StandForCauses}
 use Rattle.fw_model.specs.EventStamps.{AreStampsIf, base_of_sent, tells_sent, causes_in, causes_of}
 use Rattle.fw_model.specs.Filtering.{events_inside, messages_from, messages_outside}
 use Rattle.fw_model.specs.History.{message_on, delivered_messages, sent_messages, IsLegal}
@@ -94,7 +95,7 @@ stamps-own whole sys h k p base stamps same a =
           let x = a.sent n e l s in
           record {
             of_cause = x.of_cause;
-            thinned = subst (λ ms. IsThinnedIf (whole && tells_sent sys.flow p) (base_of_sent sys.flow p base) (causes_in ms) (causes_of (counted_on_edge e stamps.sent))) (own e s) x.thinned;
+            thinned = subst (λ ms. StandForCauses sys.flow p (whole && tells_sent sys.flow p) (base_of_sent sys.flow p base) (causes_in ms) (causes_of (counted_on_edge e stamps.sent))) (own e s) x.thinned;
           };
       numbered = λ n t e l s.
           subst (λ ms. IsThinned (everything (bounds_of sys.flow (receiver sys.flow e))) (map (λ (m : Message). m.at) ms)

@@ -21,7 +21,6 @@ use Rattle.fw_model.specs.Steps.{silent, did, idle, is_asked, StepsTo, with_even
 use Rattle.fw_model.specs.Told.{is_told, IsSumOfTold}
 use Rattle.fw_node.specs.Answers.{caused_by}
 use Rattle.fw_node.specs.Arrived.{IsOneOf}
-use Rattle.fw_progress.specs.History.{stamps_sent}
 use Rattle.fw_stands.specs.Parts.{queued, is_logging, logged, table_base}
 
 -- ---- what is delivered
@@ -51,10 +50,9 @@ IsDeliveryOf sys state e at (Some m) = StepsTo sys state (Deliver e at) (with_ev
 abbrev pub sends_at : System → List Event → Event → List Message
 sends_at sys h v = sends sys (event_node sys.flow v) (events_at sys.flow (event_node sys.flow v) h) v
 
--- These messages are what an event makes its node send, in whatever order, and their stamps are those of what it sends, in order.
-pub record AreSent (sys : System) (h : List Event) (v : Event) (sent : List Message) : Type 0 where
-  pub messages : sorted_messages sent ≡ sorted_messages (sends_at sys h v)
-  pub stamps : map (λ (m : Message). m.at) sent ≡ stamps_sent sys h v
+-- these messages are what an event makes its node send, in whatever order
+abbrev pub AreSent : System → List Event → Event → List Message → Type 0
+AreSent sys h v sent = sorted_messages sent ≡ sorted_messages (sends_at sys h v)
 
 -- the recs of a batch as messages at their epoch
 abbrev pub at_epoch : ℕ → List Rec → List Message

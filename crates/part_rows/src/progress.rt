@@ -1,6 +1,6 @@
 //! Calls of progress.
-ghost use Rattle.std.specs.Prelude.{◌≡◌, ◌<◌, length};
-ghost use Rattle.fw_progress.specs.Progress.{IsProgressOf};
+ghost use Rattle.std.specs.Prelude.{◌≡◌, ◌<◌, length, IfOk};
+ghost use Rattle.fw_progress.specs.Progress.{IsProgressOf, stamps_of_recs};
 
 use fw_bag::Rec;
 use fw_flow::{EdgeId, Flow, NodeId, Steps};
@@ -164,23 +164,41 @@ fn happens(
     let (what, sent) = columns(text, " :");
     let sent = stamps_of(alloc, sent)?;
     match event {
-        Happening::Inject => inject(flow, progress, what, &sent),
+        Happening::Inject => inject(alloc, flow, progress, what, &sent),
         Happening::Deliver => deliver(alloc, flow, progress, what, &sent),
         Happening::Notify => notify(alloc, flow, progress, what, &sent),
     }
 }
 
+/// A rec of key 0 and value 0 at each of the stamps.
+fn nothing_at(alloc: Global, stamps: &[Stamp]) -> Result<Vec<(Stamp, Rec)>, AllocError>
+    ensures { IfOk result (λ recs. stamps_of_recs recs.items ≡ stamps.now) }
+{
+    let mut recs = Vec::with_capacity(alloc, stamps.len())?;
+    for at in stamps {
+        recs.push((at.copy(), Rec { key: 0, value: 0 }))?;
+    }
+    Ok(recs)
+}
+
 /// An input injects.
-fn inject(flow: &Flow, progress: &mut Progress, name: &str, sent: &[Stamp]) -> Result<(), NoAnswer>
+fn inject(
+    alloc: Global,
+    flow: &Flow,
+    progress: &mut Progress,
+    name: &str,
+    sent: &[Stamp],
+) -> Result<(), NoAnswer>
     requires { IsProgressOf flow.now progress.old }
     ensures { IsProgressOf flow.now progress.new }
 {
     let node = node_of(flow, name)?;
-    injected(flow, progress, node, sent)
+    injected(alloc, flow, progress, node, sent)
 }
 
 /// An input injects, if it can send at these stamps.
 fn injected(
+    alloc: Global,
     flow: &Flow,
     progress: &mut Progress,
     node: NodeId,
@@ -193,7 +211,8 @@ fn injected(
     if !can_send(flow, node, sent) {
         return Err(NoAnswer::NotSpelled);
     }
-    progress.injected(flow, node, sent)?;
+    let recs = nothing_at(alloc, sent)?;
+    progress.injected(flow, node, &recs)?;
     Ok(())
 }
 
@@ -211,11 +230,12 @@ fn deliver(
     let (name, at) = part(what);
     let edge = edge_of(flow, name)?;
     let at = stamp_of(alloc, at)?;
-    delivered(flow, progress, edge, &at, sent)
+    delivered(alloc, flow, progress, edge, &at, sent)
 }
 
 /// A message is delivered, if it can come at the stamp and the receiver can send at these.
 fn delivered(
+    alloc: Global,
     flow: &Flow,
     progress: &mut Progress,
     edge: EdgeId,
@@ -230,7 +250,8 @@ fn delivered(
     if !at.in_domain(&flow.domain(node)) || !can_send(flow, node, sent) {
         return Err(NoAnswer::NotSpelled);
     }
-    progress.delivered(flow, edge, at, sent)?;
+    let recs = nothing_at(alloc, sent)?;
+    progress.delivered(flow, edge, at, &recs)?;
     Ok(())
 }
 
@@ -251,7 +272,8 @@ fn notify(
     if !can_send(flow, node, sent) {
         return Err(NoAnswer::NotSpelled);
     }
-    progress.notified(flow, node, &at, sent)?;
+    let recs = nothing_at(alloc, sent)?;
+    progress.notified(flow, node, &at, &recs)?;
     Ok(())
 }
 
@@ -420,11 +442,11 @@ fn through(
 {
     let at = Stamp::new(&[epoch]);
     let sent = [Stamp::new(&[epoch])];
-    injected(flow, progress, node, &sent)?;
+    injected(alloc, flow, progress, node, &sent)?;
     let once = growth_count(alloc, flow, progress)?;
-    delivered(flow, progress, first, &at, &sent)?;
+    delivered(alloc, flow, progress, first, &at, &sent)?;
     let twice = growth_count(alloc, flow, progress)?;
-    delivered(flow, progress, second, &at, &[])?;
+    delivered(alloc, flow, progress, second, &at, &[])?;
     let thrice = growth_count(alloc, flow, progress)?;
     Ok(once.saturating_add(twice).saturating_add(thrice))
 }

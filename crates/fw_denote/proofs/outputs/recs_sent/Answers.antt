@@ -20,7 +20,7 @@ sent-requires-in-len1-clause-in_domain c =
     let flow = c.args.flow.now in
     let kind = c.kind-kind.result in
     subst (λ (rs : List Timed). AreIn flow kind rs)
-    (sym (c.on_edge.ensures ∙ ap (family_held flow c.args.bags.now) c.edge-item.is))
+    (sym (c.deref.ensures.value ∙ c.in_ok-rs-in-len1.ensures.recs ∙ ap (family_held flow c.args.bags.now) c.edge-item.is))
     (comes_in flow c.requires.system.flow c.args.bags.now c.requires.held c.args.node kind c.in_edges-edges.result.now 0 c.edge-item.result
     c.kind-kind.ensures c.in_edges-edges.ensures (omega arith))
 

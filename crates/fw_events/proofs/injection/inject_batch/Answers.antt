@@ -3,7 +3,7 @@ use Rattle.std.proofs.lemmas.Result.{on_ok_weaker}
 use Rattle.fw_flow.specs.Dataflow.{is_input_kind}
 use Rattle.fw_model.proofs.NothingInsideLaws.{kind-declared}
 use Rattle.fw_border.specs.Sources.{next_batch}
-use Rattle.fw_node.specs.NodeOf.{stamps_of}
+use Rattle.fw_node.specs.Sends.{sends_list}
 use Rattle.fw_progress.proofs.TargetLaws.{epoch-in_domain}
 use Rattle.fw_running.specs.declared.running.Running.{Running}
 use Rattle.fw_running.specs.Kept.{source_of}
@@ -43,8 +43,8 @@ pub tell_injected-requires-clause-sent : goal.tell_injected-requires-clause-sent
 tell_injected-requires-clause-sent c =
     let old = c.args.running.now in
     let l : c.args.epoch < 2 ^ 32 = omega arith in
-    can-tell old.flow c.send.new.running.flow c.args.source c.args.source (stamps_of c.args.sends.now) c.as_slice.result.now
-    (ap (λ (r : Running). r.flow) c.send.ensures.others) refl (c.as_slice.ensures ∙ c.in_ok-stamps.ensures.stamps)
+    can-tell old.flow c.send.new.running.flow c.args.source c.args.source (sends_list c.args.sends.now) c.as_slice.result.now
+    (ap (λ (r : Running). r.flow) c.send.ensures.others) refl (c.as_slice.ensures ∙ c.in_ok-sent.ensures.recs)
     (next-can_be_sent old.flow c.args.source c.args.epoch (source_of old c.args.source) c.args.sends.now c.requires.shaped.well_formed c.requires.input l c.requires.next)
 
 pub returns-clause-takes : goal.returns-clause-takes
@@ -55,5 +55,5 @@ returns-clause-takes c =
     let there : c.args.source < length old.parts.sources = subst (λ n. c.args.source < n) (sym c.requires.shaped.one_each.sources) declared in
     on_ok_weaker c.tell_injected.result (λ told.
     injected-takes c.args.source c.args.epoch c.new.result c.as_slice.result.now c.args.sends.now old a c.send.new.running c.tell_injected.new.running
-    c.requires.next c.requires.input there c.new.ensures (c.as_slice.ensures ∙ c.in_ok-stamps.ensures.stamps) refl c.advance.ensures c.send.ensures.others
-    c.in_ok-stamps.ensures.sent c.tell_injected.ensures.others told) c.tell_injected.ensures.told
+    c.requires.next c.requires.input there c.new.ensures (c.as_slice.ensures ∙ c.in_ok-sent.ensures.recs) refl c.advance.ensures c.send.ensures.others
+    c.in_ok-sent.ensures.sent c.tell_injected.ensures.others told) c.tell_injected.ensures.told

@@ -4,8 +4,12 @@ use Rattle.fw_flow.specs.Dataflow.{bounds_of}
 use Rattle.fw_node.specs.NodeOf.{CanBeSent}
 use Rattle.fw_node.proofs.MessageLaws.{messages-at, messages-each_cause}
 use Rattle.fw_node.specs.Sends.{messages_of}
-use Rattle.fw_events.proofs.SendLaws.{edge-read, out_edge-there, place-there, sent-step}
+use Rattle.fw_events.proofs.SendLaws.{edge-read, out_edge-there, place-there, sent-none, sent-step}
 use Rattle.fw_events.proofs.sending.send_each.Goals as goal
+
+pub returns-then-len-eq0-clause-sent : goal.returns-then-len-eq0-clause-sent
+returns-then-len-eq0-clause-sent c =
+    sent-none c.args.running.now c.args.node c.args.cause.now c.args.sends.now (omega (arith, c.if-len-eq0.true, c.len.ensures))
 
 pub send_on-requires-clause-there : goal.send_on-requires-clause-there
 send_on-requires-clause-there c =

@@ -14,6 +14,7 @@ returns c =
       loops_named = names.loops;
       nodes_named = names.nodes;
       edges_named = names.edges;
+      whole = c.requires.whole;
       numbers = c.numbers_are_small.ensures;
     })
-    c.requires
+    c.requires.short

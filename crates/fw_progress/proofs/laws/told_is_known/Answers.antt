@@ -12,10 +12,10 @@ returns c = record {
     (λ h. notified_more-among q t old new k sys h p),
     (λ these base. notified_more-outside q t old new k sys.flow these p base),
   );
-  sent = λ flow q t old new k sys p s. (
-    (λ h. sent_more-among flow q t old new k sys h p s),
-    (λ these base. sent_more-outside flow q t old new k sys.flow these p base),
-    sent_more-has flow q t old new k,
+  sent = λ e t old new k sys p. (
+    (λ h. sent_more-among e t old new k sys h p),
+    (λ these base. sent_more-outside e t old new k sys.flow these p base),
+    sent_more-has e t old new k,
   );
   passes = outside-passes;
 }

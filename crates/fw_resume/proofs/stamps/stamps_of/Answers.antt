@@ -1,19 +1,13 @@
-use Rattle.std.proofs.Common.{◌≡◌, ◌∙◌, true, List, sym, subst}
-use Rattle.std.specs.List.{AllByRecursion}
-use Rattle.fw_time.specs.Stamp.{Stamp, in_domain}
+use Rattle.std.proofs.Common.{◌∙◌, List, sym, subst}
+use Rattle.fw_time.specs.Stamp.{Stamp}
 use Rattle.fw_time.specs.declared.stamp.Bounds.{Bounds}
 use Rattle.fw_frontier.specs.Front.{frontier_of}
 use Rattle.fw_flow.specs.declared.choice.Counted.{Counted}
-use Rattle.fw_flow.specs.Dataflow.{bounds_of, in_edges, out_edges}
+use Rattle.fw_flow.specs.Dataflow.{in_edges, out_edges}
 use Rattle.fw_regain.specs.Greatest.{AreGreatestIn}
 use Rattle.fw_resume.specs.Stamps.{AreDeliveredBack, AreOnEdges, AreSentBack}
-use Rattle.fw_resume.proofs.StampLaws.{got_back, delivered-inside}
+use Rattle.fw_resume.proofs.StampLaws.{got_back}
 use Rattle.fw_resume.proofs.stamps.stamps_of.Goals as goal
-
-pub sent_if_told-requires : goal.sent_if_told-requires
-sent_if_told-requires c =
-    subst (AllByRecursion (λ (m : Counted). in_domain (bounds_of c.args.flow.now c.args.node) m.at ≡ true)) (sym c.deref.ensures.value)
-    (delivered-inside c.args.flow.now c.args.node c.args.recorded.now c.in_ok-delivered.delivered.items c.in_ok-delivered.ensures)
 
 pub returns : goal.returns
 returns c =
@@ -26,6 +20,5 @@ returns c =
     (subst (λ (b : Bounds). AreGreatestIn b (frontier_of b r.notified) c.of-2.result) c.domain.ensures
     (subst (λ (ts : List Stamp). AreGreatestIn d (frontier_of d r.notified) ts) (sym c.of-2.ensures)
     (record { covering = c.in_ok-notified.ensures.cover; of_domain = c.in_ok-notified.ensures.domain; greatest = c.in_ok-notified.ensures.greatest })))
-    (λ k. subst (λ (ms : List Counted). AreOnEdges (AreSentBack flow p r c.of.result) (out_edges flow p) ms) (sym c.of-3.ensures)
-    (subst (λ (ds : List Counted). AreOnEdges (AreSentBack flow p r ds) (out_edges flow p) c.in_ok-sent.sent.items) (c.deref.ensures.value ∙ sym c.of.ensures) (c.in_ok-sent.ensures.told k)))
+    (λ k. subst (λ (ms : List Counted). AreOnEdges (AreSentBack flow p r) (out_edges flow p) ms) (sym c.of-3.ensures) (c.in_ok-sent.ensures.told k))
     (λ k. c.of-3.ensures ∙ c.in_ok-sent.ensures.none k)

@@ -5,6 +5,7 @@ use Rattle.fw_flow.specs.declared.event.Event.{Event}
 use Rattle.fw_flow.specs.declared.event.Message.{Message}
 use Rattle.fw_flow.specs.Dataflow.{System}
 use Rattle.fw_flow.specs.NodeFunction.{sends}
+use Rattle.fw_model.specs.Carried.{carried}
 use Rattle.fw_record.specs.Event.{stamp_of_event}
 use Rattle.fw_record.specs.declared.record.Event.{Event as LoggedEvent}
 use Rattle.fw_node.specs.Sends.{messages_of}
@@ -37,7 +38,7 @@ returns-in_ok-sends-in-Deliver-clause-logs c = λ logged st sent.
     let P : Event → Type 0 = λ x. messages_of at c.in_ok-sends-in-Deliver.sends ≡ sends sys p before x in
     let same : P v = of_delivery P flow p before c.in-Deliver.edge at c.in-Deliver.rec v (is ∙ ap (λ (x : LoggedEvent). x ∷ []) c.in-Deliver.is) can
     (λ m stamp rec one told. c.in_ok-sends-in-Deliver.ensures.sent sys p (λ x. false) before m stamp rec one refl t) in
-    ap (λ (xs : List Message). log_of flow c.args.low.now e (xs ++ ms)) same)
+    ap (λ (xs : List Message). log_of flow c.args.low.now e (carried flow e xs ++ ms)) same)
     c.log_sends.ensures.logged
 
 pub returns-in_ok-sends-in-Notify-clause-table : goal.returns-in_ok-sends-in-Notify-clause-table
@@ -59,7 +60,7 @@ returns-in_ok-sends-in-Notify-clause-logs c = λ logged st sent.
     have_sent-more flow c.args.low.now p logged c.args.event.now c.args.table.now c.args.logs.now c.log_sends-in-Notify.new.logs c.log_sends-in-Notify.result (messages_of at c.in_ok-sends-in-Notify.sends) st sent
     (λ batches before v is can t e ms.
     let sys : System = record { flow = flow; batches = batches } in
-    let P : Event → Type 0 = λ x. log_of flow c.args.low.now e (messages_of at c.in_ok-sends-in-Notify.sends ++ ms) ≡ log_of flow c.args.low.now e (sends sys p before x ++ ms) in
+    let P : Event → Type 0 = λ x. log_of flow c.args.low.now e (carried flow e (messages_of at c.in_ok-sends-in-Notify.sends) ++ ms) ≡ log_of flow c.args.low.now e (carried flow e (sends sys p before x) ++ ms) in
     of_notice P flow p before at v (is ∙ ap (λ (x : LoggedEvent). x ∷ []) c.in-Notify.is) can
     (λ told sum. notice-logged sys c.args.low.now e p before at (messages_of at c.in_ok-sends-in-Notify.sends) ms
     (c.in_ok-sends-in-Notify.ensures.sent flow p (λ x. false) before refl told sum t)))

@@ -1,0 +1,4 @@
+pub mod KeyLaws
+pub mod SumsByKeyLaws
+pub mod PartLaws
+pub mod ExpansionLaws

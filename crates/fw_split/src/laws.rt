@@ -1,0 +1,32 @@
+//! The laws of split nodes, as functions that do nothing: the clause of each is the law.
+ghost use Rattle.fw_split.specs.LawsOfSplitting.{ReplicasSendTheirParts, PartsMakeTheBag, ExpansionDenotesTheSame, DenotationOfExpansion, NodesHearTheSame, EdgesCarryTheSame};
+
+/// A replica sends its part of what the node that is not split sends.
+pub fn replicas_send_their_parts()
+    ensures { ReplicasSendTheirParts }
+{}
+
+/// The parts of a bag, one after another, are the bag.
+pub fn parts_make_the_bag()
+    ensures { PartsMakeTheBag }
+{}
+
+/// A denotation of a flow without the word gives one of its expansion.
+pub fn expansion_denotes_the_same()
+    ensures { ExpansionDenotesTheSame }
+{}
+
+/// So each denotation of a well-formed expansion has on each edge what the flow without the word has there.
+pub fn denotation_of_expansion()
+    ensures { DenotationOfExpansion }
+{}
+
+/// So each node that may not be split, an output among them, is in it, and the same comes to it.
+pub fn nodes_hear_the_same()
+    ensures { NodesHearTheSame }
+{}
+
+/// So what an edge carries, one of the expansion carries, or its parts together do: also out of a split node.
+pub fn edges_carry_the_same()
+    ensures { EdgesCarryTheSame }
+{}

@@ -1,3 +1,4 @@
+pub mod ByteLaws
 pub mod LineMoments
 pub mod Moments
 pub mod PutMoments
@@ -6,3 +7,4 @@ pub mod RunCalls
 pub mod SurvivalLaws
 pub mod TableLaws
 pub mod ToldLaws
+pub mod TextLaws

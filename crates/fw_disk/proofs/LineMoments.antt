@@ -6,7 +6,7 @@ use Rattle.fw_disk.specs.FolderCalls.{FolderCall, made, appended, flushed, linke
 use Rattle.fw_disk.specs.PowerLoss.{Disk, DiskFile, kept, written, grown, torn, flush_of, longer_by, Becomes, MayBeThere, MayBeLeft, is_settled, AtEachMoment}
 use Rattle.fw_disk.specs.RunLines.{digest_line}
 use Rattle.fw_disk.specs.Survival.{EndsIn, IsLineWritten, IsRunFileKnown, IsWithLine}
-use Rattle.fw_disk.proofs.Moments.{both, touches, untouched, run_untouched, left_before, settled_there}
+use Rattle.fw_disk.proofs.Moments.{both, last, touches, untouched, run_untouched, left_before, settled_there}
 
 -- ---- calls of other files than `run`
 
@@ -110,6 +110,16 @@ module _ (id : ℕ) (contents line : List ℕ) (start : Disk) (old : List Folder
           let b = both (is_beside_run call) (list_all is_beside_run since) e in
           late_next (since ++ h) ((call ∷ since) ++ h) call (beside_untouched call b.0) refl (go since b.1)
 
+  -- nothing was called, and the file beside is taken away
+  pub still_line : (new : List FolderCall) → new ≡ old → Moments new
+  still_line new e = record { since = []; history = e; each = (λ left. inl left) }
+
+  pub then_removed : (h new : List FolderCall) (done : Bool) → new ≡ removed (Beside id) done ∷ h → Moments h → Moments new
+  then_removed h new done e m = one_more h new (removed (Beside id) done) e m (subst At (sym e) (λ left.
+      ⊎_elim (λ l. inl l)
+      (λ (has : HasLine h). inr (λ text there. has text (left_before start (removed (Beside id) done) h Run (Some text) refl there)))
+      (last At old h m (left_before start (removed (Beside id) done) h (Record id) (Some contents) refl left))))
+
   -- ---- the line is written
 
   known_after : (h : List FolderCall) (call : FolderCall) → touches call Run ≡ false → is_settled Run ((call ∷ h) ++ start.earlier) ≡ is_settled Run (h ++ start.earlier) → IsRunFileKnown start h → IsRunFileKnown start (call ∷ h)
@@ -148,7 +158,7 @@ ends line bytes text (written was) in_line known b = behind line bytes text was 
 ends line bytes text (grown was more) in_line known b = behind line bytes text (was ++ more) in_line (b ∙ ap Some (sym (append_assoc was more bytes)))
 ends line bytes text (torn most) in_line known b = absurd (known most refl)
 
-line_left : (id : ℕ) (digest : List ℕ) (start : Disk) (mid new : List FolderCall) → IsRunFileKnown start mid → IsLineWritten id digest mid new
+line_left : (id : ℕ) (digest : List ℕ) (start : Disk) (mid new : List FolderCall) → IsRunFileKnown start mid → IsLineWritten true id digest mid new
     → (text : List ℕ) → MayBeLeft start new Run (Some text) → EndsIn (digest_line id digest) text
 line_left id digest start mid new known line text left =
     let bytes = line.0 in
@@ -164,6 +174,6 @@ line_left id digest start mid new known line text left =
     inside a b e = cc
 
 pub told : (id : ℕ) (contents digest : List ℕ) (start : Disk) (old mid new : List FolderCall) → Early id contents (digest_line id digest) start old mid → AreOfRun mid new
-    → IsRunFileKnown start mid → IsLineWritten id digest mid new → Late id contents (digest_line id digest) start old new
+    → IsRunFileKnown start mid → IsLineWritten true id digest mid new → Late id contents (digest_line id digest) start old new
 told id contents digest start old mid new early of_run known line =
     ((early_run id contents (digest_line id digest) start old mid new of_run early).0, line_left id digest start mid new known line)

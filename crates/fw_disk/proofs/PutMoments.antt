@@ -201,6 +201,21 @@ module _ (id : ℕ) (contents : List ℕ) (start : Disk) where
       (λ f s. may_have_none New may_be_none start (renamed (Beside id) (Record id) false ∷ taken old) id
       (lasts_still start (renamed (Beside id) (Record id) false) (taken old) (Record id) None (named_now id _) (⊎_elim (λ t. taken_free old f t) (λ (t : ((was : Option DiskFile) × MayBeThere start (taken old) (Record id) was) × MayBeThere start (taken old) (Beside id) f). taken_free old t.0.0 t.0.1) (at_same id _ _ s))))))
 
+  -- the flush of the empty file was refused, and it goes again
+  pub undone_flush : (old mid new end : List FolderCall) (done : Bool) → mid ≡ made (Record id) [] true ∷ old → new ≡ flushed (Record id) false ∷ mid → end ≡ removed (Record id) done ∷ new → Puts old end
+  undone_flush old mid new end done e f u =
+      let is = f ∙ ap (λ h. flushed (Record id) false ∷ h) e in
+      adds New may_be_none start old new end (removed (Record id) done) (taken_puts old new false is) u
+      (subst (λ h. IsOldOrNew id contents start h (removed (Record id) done ∷ h)) (sym is)
+      (at_removed New may_be_none start (flushed (Record id) false ∷ made_empty old) id done
+      (λ f s. may_have_none New may_be_none start (flushed (Record id) false ∷ made_empty old) id
+      (lasts_still start (flushed (Record id) false) (made_empty old) (Record id) None (named_now id _) (none_still old (was_none f s))))))
+    where
+      was_none : (f : Option DiskFile) → MayBeThere start (flushed (Record id) false ∷ made_empty old) (Record id) f → MayBeThere start old (Record id) None
+      was_none f s =
+          ⊎_elim (λ (t : MayBeThere start (made_empty old) (Record id) f). (empty_taken old f t).0)
+          (λ (t : MayBecome (MayBeThere start (made_empty old)) (Record id) (λ file. torn (most_of file)) f). (empty_taken old (Some t.0) t.1).0) (at_same id _ _ s)
+
   -- ---- the names are flushed
 
   pub flush_puts : (old new : List FolderCall) (done : Bool) → new ≡ folder_flushed done ∷ old → Puts old new

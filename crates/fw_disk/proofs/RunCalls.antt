@@ -1,8 +1,14 @@
 -- Calls of the file `run` alone, one after the other.
 use Rattle.std.proofs.Common.{◌≡◌, ⊎_elim, ℕ, Bool, true, false, ◌&&◌, List, [], ◌∷◌, ◌++◌, refl, sym, ap, ◌∙◌, append_assoc}
 use Rattle.std.specs.List.{list_all}
+use Rattle.std.specs.Prelude.{Result, Ok, Err, OnErr}
 use Rattle.fw_disk.specs.declared.cause.DiskPlace.{DiskPlace}
 use Rattle.fw_disk.specs.FolderCalls.{FolderCall, made, flushed, is_run, is_of_run, AreOfRun, IsRefused}
+
+-- what holds anyway holds where a call fails
+pub on_err : {A E : Type 0} (r : Result A E) (P : Type 0) → P → OnErr r P
+on_err (Ok a) P p = tt
+on_err (Err e) P p = p
 
 pub no_calls : (h : List FolderCall) → AreOfRun h h
 no_calls h = record { since = []; history = refl; of_run = refl }

@@ -22,7 +22,7 @@ Table = BTreeMap ℕ Digests
 abbrev pub is_some_left : Digests → Bool
 is_some_left digests = not (vec_len digests == 0)
 
-abbrev listed : Option Digests → List (List ℕ)
+abbrev pub listed : Option Digests → List (List ℕ)
 listed o = unwrap_or (option_map (λ (digests : Digests). digests.items) o) []
 
 not_empty : (d : List ℕ) (ds : List (List ℕ)) → (length (d ∷ ds) == 0) ≡ false

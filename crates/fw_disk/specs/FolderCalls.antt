@@ -118,10 +118,20 @@ pub record AreBesideRun (old new : List FolderCall) : Type 0 where
   pub history : new ≡ since ++ old
   pub beside : list_all is_beside_run since ≡ true
 
--- these bytes were written behind those of a file, and flushed
-abbrev pub IsLonger : DiskPlace → List ℕ → List FolderCall → List FolderCall → Type 0
-IsLonger place bytes old new = new ≡ flushed place true ∷ appended place bytes true ∷ old
+-- these bytes were written behind those of a file, and flushed if they were to be
+abbrev pub IsLonger : Bool → DiskPlace → List ℕ → List FolderCall → List FolderCall → Type 0
+IsLonger true place bytes old new = new ≡ flushed place true ∷ appended place bytes true ∷ old
+IsLonger false place bytes old new = new ≡ appended place bytes true ∷ old
 
 -- a file that was to be made whole and flushed was refused, or its flush was
 abbrev pub IsRefused : DiskPlace → List ℕ → List FolderCall → List FolderCall → Type 0
 IsRefused place bytes old new = (new ≡ made place bytes false ∷ old) ⊎ (new ≡ flushed place false ∷ made place bytes true ∷ old)
+
+-- the flush of the empty file that took the name of a record was refused, or the rename of the file beside
+abbrev pub IsNotRenamed : ℕ → List FolderCall → List FolderCall → Type 0
+IsNotRenamed id old new =
+    (new ≡ flushed (Record id) false ∷ old) ⊎ (new ≡ renamed (Beside id) (Record id) false ∷ flushed (Record id) true ∷ old)
+
+-- the last call was to take this name away
+abbrev pub EndsInRemoval : DiskPlace → List FolderCall → Type 0
+EndsInRemoval place calls = (done : Bool) × (before : List FolderCall) × (calls ≡ removed place done ∷ before)

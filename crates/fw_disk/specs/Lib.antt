@@ -1,5 +1,6 @@
 pub mod Contents
 pub mod FolderCalls
+pub mod KnownFiles
 pub mod RunLines
 pub mod Paths
 pub mod PowerLoss

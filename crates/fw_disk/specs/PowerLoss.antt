@@ -157,6 +157,17 @@ MayBeThere start calls = ThereAfter start.had (calls ++ start.earlier)
 abbrev pub MayLast : Disk → List FolderCall → Possible
 MayLast start calls = LastsAfter start.had (calls ++ start.earlier)
 
+-- the bytes of a file, where they are known
+abbrev pub bytes_of : DiskFile → Option (List ℕ)
+bytes_of (kept bytes) = Some bytes
+bytes_of (written bytes) = Some bytes
+bytes_of (grown bytes more) = Some (bytes ++ more)
+bytes_of (torn most) = None
+
+-- each file that may be there now has these bytes
+abbrev pub HasBytes : Disk → List FolderCall → DiskPlace → List ℕ → Type 0
+HasBytes start calls place bytes = (file : DiskFile) → MayBeThere start calls place (Some file) → bytes_of file ≡ Some bytes
+
 -- what a loss of power after these calls may leave under a place
 abbrev pub MayBeLeft : Disk → List FolderCall → DiskPlace → Option (List ℕ) → Type 0
 MayBeLeft start calls place found = (f : Option DiskFile) × MayLast start calls place f × Becomes f found

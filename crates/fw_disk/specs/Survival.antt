@@ -1,5 +1,5 @@
 -- What a loss of power leaves of records, at each moment of a store's calls and between them.
-use Rattle.std.specs.Prelude.{◌≡◌, ◌⊎◌, ℕ, true, false, List, [], ◌∷◌, ◌++◌, Option, Some, None}
+use Rattle.std.specs.Prelude.{◌≡◌, ◌⊎◌, ℕ, Bool, true, false, List, [], ◌∷◌, ◌++◌, Option, Some, None}
 use Rattle.std.specs.Option.{ForSome}
 use Rattle.std.specs.FinMap as map
 use Rattle.fw_heard.specs.Note.{Note}
@@ -86,9 +86,9 @@ StayWhole calls = (start : Disk) → AreWhole start [] → (later moment : List 
 abbrev pub EndsIn : List ℕ → List ℕ → Type 0
 EndsIn line text = (before : List ℕ) × (text ≡ before ++ line)
 
--- the line of a record was written into `run`, and flushed
-abbrev pub IsLineWritten : ℕ → List ℕ → List FolderCall → List FolderCall → Type 0
-IsLineWritten id digest old new = (text : List ℕ) × EndsIn (digest_line id digest) text × IsLonger Run text old new
+-- the line of a record was written into `run`, and flushed if it was to be
+abbrev pub IsLineWritten : Bool → ℕ → List ℕ → List FolderCall → List FolderCall → Type 0
+IsLineWritten flushes id digest old new = (text : List ℕ) × EndsIn (digest_line id digest) text × IsLonger flushes Run text old new
 
 -- the name of `run` is on the disk, and no flush of its file failed
 pub record IsRunFileKnown (start : Disk) (now : List FolderCall) : Type 0 where

@@ -1,9 +1,11 @@
 //! How each call that changes the folder is noted.
-ghost use Rattle.std.specs.Prelude.{◌≡◌, [], ◌∷◌};
+ghost use Rattle.std.specs.Prelude.{◌≡◌, [], ◌∷◌, is_ok, IfOk};
 ghost use Rattle.fw_disk.specs.FolderCalls.{calls_of, coded_place, made, appended, flushed, linked, renamed, removed, folder_flushed, seen_empty};
+ghost use Rattle.fw_disk.specs.KnownFiles.{HasGrown};
 
-use crate::cause::DiskPlace;
+use crate::cause::{DiskPlace, DiskRefusal};
 use fw_heard::Heard;
+use std::io::Write;
 
 const MADE: u64 = 0;
 
@@ -51,21 +53,34 @@ impl CallNotes {
         }
     }
 
-    /// A file was made, with these bytes.
-    pub(crate) fn made(&mut self, place: DiskPlace, bytes: &[u8], done: bool)
-        ensures { calls_of self.new ≡ made place bytes.now done ∷ calls_of self.old }
-    {
-        let (kind, id) = coded(place);
-        self.heard.note(&[MADE, kind, id, 0, 0, done as u64], bytes);
-    }
-
-    /// Bytes were written behind those of a file.
-    pub(crate) fn appended(&mut self, place: DiskPlace, bytes: &[u8], done: bool)
-        ensures { calls_of self.new ≡ appended place bytes.now done ∷ calls_of self.old }
+    /// A file was made, with these bytes. It is there to be shown, where it was made.
+    pub(crate) fn made<F: Write>(
+        &mut self,
+        place: DiskPlace,
+        bytes: &[u8],
+        file: &Result<F, DiskRefusal>,
+    )
+        requires { IfOk file.now (λ file. HasGrown F.contents file bytes.now) }
+        ensures { calls_of self.new ≡ made place bytes.now (is_ok file.now) ∷ calls_of self.old }
     {
         let (kind, id) = coded(place);
         self.heard
-            .note(&[APPENDED, kind, id, 0, 0, done as u64], bytes);
+            .note(&[MADE, kind, id, 0, 0, file.is_ok() as u64], bytes);
+    }
+
+    /// Bytes were written behind those of a file. It is there to be shown, where they were.
+    pub(crate) fn appended<F: Write>(
+        &mut self,
+        place: DiskPlace,
+        bytes: &[u8],
+        file: &Result<F, DiskRefusal>,
+    )
+        requires { IfOk file.now (λ file. HasGrown F.contents file bytes.now) }
+        ensures { calls_of self.new ≡ appended place bytes.now (is_ok file.now) ∷ calls_of self.old }
+    {
+        let (kind, id) = coded(place);
+        self.heard
+            .note(&[APPENDED, kind, id, 0, 0, file.is_ok() as u64], bytes);
     }
 
     /// The bytes of a file were flushed.

@@ -1,7 +1,8 @@
 //! The folder as one run has it.
-ghost use Rattle.std.specs.Prelude.{◌≡◌, ℕ, true, [], ◌∷◌, None, IfOk, OnOk, OnErr, string_bytes};
+ghost use Rattle.std.specs.Prelude.{◌≡◌, ℕ, ◌<◌, true, [], ◌∷◌, None, IsSome, IfOk, IfSome, OnOk, OnErr, string_bytes};
 ghost use Rattle.sha2.specs.Sha256.{sha256};
 ghost use Rattle.fw_disk.specs.FolderCalls.{calls_of, folder_flushed, AreOfRun};
+ghost use Rattle.fw_disk.specs.KnownFiles.{IsRunText};
 ghost use Rattle.fw_disk.specs.PowerLoss.{Disk, AtEachMoment};
 ghost use Rattle.fw_disk.specs.RunLines.{digest_line, digests_of, digests_under, are_any, MayStand};
 ghost use Rattle.fw_disk.specs.Survival.{IsOld, IsOldOrNew, IsOldOrGone, IsOnDisk, IsGone, EndsIn, IsLineWritten, IsRunFileKnown, IsWithLine};
@@ -138,7 +139,9 @@ fn digest_found<R: Files>(
     folder: &Folder<'_, R>,
     lines: &RunLines,
     id: u64,
-) -> Result<Option<Digest>, DiskRefusal> {
+) -> Result<Option<Digest>, DiskRefusal>
+    ensures { IfOk result (λ found. IfSome found (λ digest. MayStand lines.now.told id digest)) }
+{
     if let Some(digest) = lines.only(id) {
         return Ok(Some(digest));
     }
@@ -150,7 +153,9 @@ fn digest_found<R: Files>(
 }
 
 /// The bytes of the file `run`; none, where it is not there.
-pub(crate) fn run_text<R: Files>(folder: &Folder<'_, R>) -> Result<Vec<u8>, DiskRefusal> {
+pub(crate) fn run_text<R: Files>(folder: &Folder<'_, R>) -> Result<Vec<u8>, DiskRefusal>
+    ensures { IfOk result (λ text. IsRunText R.File.Read.remaining text.items) }
+{
     match folder.read(DiskPlace::Run) {
         Ok(text) => Ok(text),
         Err(DiskRefusal::Failed(cause)) if cause.trouble.is_gone() => Ok(Vec::new(folder.alloc())),
@@ -229,6 +234,9 @@ impl Claim {
         ensures others { (other : ℕ) → (other ≡ id → ⊥) → digests_under self.new.lines.told other ≡ digests_under self.old.lines.told other }
         ensures any_moment { (start : Disk) → AtEachMoment (IsOldOrNew id contents.now start (calls_of folder.old.calls)) (calls_of folder.old.calls) (calls_of folder.new.calls) }
         ensures on_disk { OnOk result ((start : Disk) → IsOnDisk id contents.now start (calls_of folder.new.calls)) }
+        // Where the id has a line already, and `run` is not written anew, the new record is left with its own line alone.
+        ensures line { IsSome (digests_of self.old.lines.told id) → self.old.lines.gone < 64 → (start : Disk) → IsRunFileKnown start (calls_of folder.old.calls)
+            → AtEachMoment (IsWithLine id contents.now (digest_line id digest) start (calls_of folder.old.calls)) (calls_of folder.old.calls) (calls_of folder.new.calls) }
     {
         self.write_anew(folder)?;
         let has_line = self.lines.has(id);
@@ -246,6 +254,7 @@ impl Claim {
     fn write_anew<R: Files>(&mut self, folder: &mut Folder<'_, R>) -> Result<(), DiskRefusal>
         ensures lines { (id : ℕ) → digests_under self.new.lines.told id ≡ digests_under self.old.lines.told id }
         ensures of_run { AreOfRun (calls_of folder.old.calls) (calls_of folder.new.calls) }
+        ensures rest { self.old.lines.gone < 64 → (self.new.lines ≡ self.old.lines) × (calls_of folder.new.calls ≡ calls_of folder.old.calls) }
     {
         if !self.lines.are_mostly_gone() {
             return Ok(());
@@ -296,7 +305,7 @@ impl Claim {
     ) -> Result<(), DiskRefusal>
         ensures lines { self.new.lines ≡ self.old.lines }
         ensures of_run { AreOfRun (calls_of folder.old.calls) (calls_of folder.new.calls) }
-        ensures told { OnOk result (has_line ≡ true → IsLineWritten id digest.now (calls_of folder.old.calls) (calls_of folder.new.calls)) }
+        ensures told { OnOk result (IsLineWritten has_line id digest.now (calls_of folder.old.calls) (calls_of folder.new.calls)) }
     {
         let text = self.text_of(folder.alloc(), id, digest)?;
         self.is_cut = true;

@@ -5,6 +5,7 @@ ghost use Rattle.std.specs.FinMap as map;
 ghost use Rattle.fw_disk.specs.declared.claim.Wanted.TheVariants.{AsLeft};
 ghost use Rattle.fw_disk.specs.Contents.{contents_of};
 ghost use Rattle.fw_disk.specs.FolderCalls.{calls_of};
+ghost use Rattle.fw_disk.specs.KnownFiles.{TellRead};
 ghost use Rattle.fw_disk.specs.PowerLoss.{Disk, AtEachMoment};
 ghost use Rattle.fw_disk.specs.Survival.{IsOld, IsOldOrNew, IsOldOrGone, IsOnDisk, IsGone, Survive, StayWhole};
 ghost use Rattle.fw_disk.specs.Told.{told_by, last_given, HasDigestsOf};
@@ -164,8 +165,11 @@ impl<R: Files, S: Start> DiskStore<'_, R, S> {
     }
 
     /// The lines of `run`; none, where it is not there. Nothing is locked.
-    pub fn lines(&self) -> Result<RunLines, DiskRefusal> {
-        Ok(lines_in(self.alloc, &run_text(&self.folder)?)?)
+    pub fn lines(&self) -> Result<RunLines, DiskRefusal>
+        ensures { IfOk result (λ lines. TellRead R.File.Read.remaining lines.told) }
+    {
+        let text = run_text(&self.folder)?;
+        Ok(lines_in(self.alloc, &text)?)
     }
 
     /// The record in the file of this name, which may stand there by these lines; none, where no id has the name. Nothing is

@@ -1,9 +1,11 @@
 //! The folder of a store, by calls of the system.
-ghost use Rattle.std.specs.Prelude.{◌≡◌, ℕ, List, [], ◌∷◌, true, is_ok, IfOk, IfSome, OnOk, OnErr, string_bytes};
+ghost use Rattle.std.specs.Prelude.{◌≡◌, ◌⊎◌, ℕ, List, [], ◌∷◌, ◌++◌, true, false, is_ok, IfOk, IfSome, OnOk, OnErr, string_bytes};
 ghost use Rattle.std.specs.Io.KnownBytes.{Appends};
-ghost use Rattle.fw_disk.specs.FolderCalls.{calls_of, made, flushed, linked, renamed, removed, folder_flushed, is_run, IsRefused, IsLonger, AreOfRun, AreBesideRun};
+ghost use Rattle.fw_disk.specs.KnownFiles.{HasGrown, AreRead};
+ghost use Rattle.fw_disk.specs.FolderCalls.{calls_of, made, flushed, linked, renamed, removed, folder_flushed, is_run, IsRefused, IsNotRenamed, EndsInRemoval, IsLonger, AreOfRun, AreBesideRun};
 ghost use Rattle.fw_disk.specs.Paths.{path_of};
-ghost use Rattle.fw_disk.specs.PowerLoss.{Disk, AtEachMoment};
+ghost use Rattle.fw_disk.specs.declared.cause.DiskPlace.TheVariants.{Record, Beside};
+ghost use Rattle.fw_disk.specs.PowerLoss.{Disk, AtEachMoment, HasBytes};
 ghost use Rattle.fw_disk.specs.Survival.{IsOld, IsOldOrNew, IsBesideFlushed, IsNamed};
 
 use crate::call_notes::CallNotes;
@@ -63,7 +65,9 @@ impl<'a, R: Files> Folder<'a, R> {
     }
 
     // A new file with these bytes.
-    fn new_file(&self, place: DiskPlace, bytes: &[u8]) -> Result<R::File, DiskRefusal> {
+    fn new_file(&self, place: DiskPlace, bytes: &[u8]) -> Result<R::File, DiskRefusal>
+        ensures { IfOk result (λ file. HasGrown R.File.Write.contents file bytes.now) }
+    {
         let path = self.path(place)?;
         let made = OpenOptions::new()
             .write(true)
@@ -75,14 +79,16 @@ impl<'a, R: Files> Folder<'a, R> {
     }
 
     // A file, with these bytes written behind its own.
-    fn longer_file(&self, place: DiskPlace, bytes: &[u8]) -> Result<R::File, DiskRefusal> {
+    fn longer_file(&self, place: DiskPlace, bytes: &[u8]) -> Result<R::File, DiskRefusal>
+        ensures { IfOk result (λ file. HasGrown R.File.Write.contents file bytes.now) }
+    {
         let path = self.path(place)?;
         let opened = OpenOptions::new()
             .append(true)
             .open(self.files, path.as_str());
-        let mut file = opened.map_err(|error| DiskRefusal::of(place, error))?;
-        write_whole(&mut file, bytes).map_err(|error| DiskRefusal::of(place, error))?;
-        Ok(file)
+        let mut longer = opened.map_err(|error| DiskRefusal::of(place, error))?;
+        write_whole(&mut longer, bytes).map_err(|error| DiskRefusal::of(place, error))?;
+        Ok(longer)
     }
 
     // Flushes the bytes of a file that was written.
@@ -96,14 +102,22 @@ impl<'a, R: Files> Folder<'a, R> {
         done
     }
 
+    // Makes a file that is not there, with these bytes.
+    fn create(&mut self, place: DiskPlace, bytes: &[u8]) -> Result<R::File, DiskRefusal>
+        ensures { calls_of self.new.calls ≡ made place bytes.now (is_ok result) ∷ calls_of self.old.calls }
+    {
+        let file = self.new_file(place, bytes);
+        self.calls.made(place, bytes, &file);
+        file
+    }
+
     /// Makes a file that is not there, with these bytes, and flushes it to the disk.
     pub(crate) fn make(&mut self, place: DiskPlace, bytes: &[u8]) -> Result<(), DiskRefusal>
         ensures done { OnOk result (calls_of self.new.calls ≡ flushed place true ∷ made place bytes.now true ∷ calls_of self.old.calls) }
         ensures refused { OnErr result (IsRefused place bytes.now (calls_of self.old.calls) (calls_of self.new.calls)) }
     {
-        let file = self.new_file(place, bytes);
-        self.calls.made(place, bytes, file.is_ok());
-        self.flush_file(place, &file?)
+        let made = self.create(place, bytes)?;
+        self.flush_file(place, &made)
     }
 
     /// Writes bytes behind those of a file, and flushes them if they are to be.
@@ -114,10 +128,13 @@ impl<'a, R: Files> Folder<'a, R> {
         flushes: bool,
     ) -> Result<(), DiskRefusal>
         ensures of_run { is_run place ≡ true → AreOfRun (calls_of self.old.calls) (calls_of self.new.calls) }
-        ensures longer { OnOk result (flushes ≡ true → IsLonger place bytes.now (calls_of self.old.calls) (calls_of self.new.calls)) }
+        ensures longer { OnOk result (IsLonger flushes place bytes.now (calls_of self.old.calls) (calls_of self.new.calls)) }
+        // Where the file had bytes that are known, it has those and these behind them.
+        ensures bytes { OnOk result ((start : Disk) (before : List ℕ) → HasBytes start (calls_of self.old.calls) place before
+            → HasBytes start (calls_of self.new.calls) place (before ++ bytes.now)) }
     {
         let longer = self.longer_file(place, bytes);
-        self.calls.appended(place, bytes, longer.is_ok());
+        self.calls.appended(place, bytes, &longer);
         let file = longer?;
         if !flushes {
             return Ok(());
@@ -161,20 +178,31 @@ impl<'a, R: Files> Folder<'a, R> {
         }
     }
 
-    // Takes the name of a record by an empty file, and gives it to the file beside.
+    // Takes the name of a record by an empty file, and gives it to the file beside. Where that is refused the empty file goes again.
     fn take_name(&mut self, id: u64) -> Result<(), DiskRefusal>
         ensures any_moment { (start : Disk) (contents : List ℕ) → IsBesideFlushed id contents start (calls_of self.old.calls) → AtEachMoment (IsOldOrNew id contents start (calls_of self.old.calls)) (calls_of self.old.calls) (calls_of self.new.calls) }
         ensures named { OnOk result ((start : Disk) (contents : List ℕ) → IsBesideFlushed id contents start (calls_of self.old.calls) → IsNamed id contents start (calls_of self.new.calls)) }
+        // Where it took the name and did not give it, it tried to take it away again.
+        ensures undone { OnErr result ((calls_of self.new.calls ≡ made (Record id) [] false ∷ calls_of self.old.calls) ⊎ EndsInRemoval (Record id) (calls_of self.new.calls)) }
         ensures beside { AreBesideRun (calls_of self.old.calls) (calls_of self.new.calls) }
     {
-        self.make(DiskPlace::Record(id), &[])?;
-        match self.rename(DiskPlace::Beside(id), DiskPlace::Record(id)) {
+        let file = self.create(DiskPlace::Record(id), &[])?;
+        match self.rename_over(id, &file) {
             Ok(()) => Ok(()),
             Err(refusal) => {
                 let _ = self.remove(DiskPlace::Record(id));
                 Err(refusal)
             }
         }
+    }
+
+    // Flushes the empty file that has the name of a record, and gives the name to the file beside.
+    fn rename_over(&mut self, id: u64, file: &R::File) -> Result<(), DiskRefusal>
+        ensures done { OnOk result (calls_of self.new.calls ≡ renamed (Beside id) (Record id) true ∷ flushed (Record id) true ∷ calls_of self.old.calls) }
+        ensures refused { OnErr result (IsNotRenamed id (calls_of self.old.calls) (calls_of self.new.calls)) }
+    {
+        self.flush_file(DiskPlace::Record(id), file)?;
+        self.rename(DiskPlace::Beside(id), DiskPlace::Record(id))
     }
 
     // The system's call that renames a file.
@@ -212,7 +240,10 @@ impl<'a, R: Files> Folder<'a, R> {
     }
 
     /// Whether a file is there.
-    pub(crate) fn has(&self, place: DiskPlace) -> Result<bool, DiskRefusal> {
+    pub(crate) fn has(&self, place: DiskPlace) -> Result<bool, DiskRefusal>
+        // One that is told to be there was opened.
+        ensures { IfOk result (λ there. there ≡ true → R.File) }
+    {
         let path = self.path(place)?;
         match fs::open(self.files, path.as_str()) {
             Ok(_) => Ok(true),
@@ -245,7 +276,9 @@ impl<'a, R: Files> Folder<'a, R> {
     }
 
     /// The bytes of a file.
-    pub(crate) fn read(&self, place: DiskPlace) -> Result<Vec<u8>, DiskRefusal> {
+    pub(crate) fn read(&self, place: DiskPlace) -> Result<Vec<u8>, DiskRefusal>
+        ensures { IfOk result (λ bytes. AreRead R.File.Read.remaining bytes.items) }
+    {
         let path = self.path(place)?;
         let mut file = fs::open(self.files, path.as_str()).map_err(|error| DiskRefusal::of_record(
             place, error,

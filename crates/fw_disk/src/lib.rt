@@ -5,6 +5,7 @@ mod call_notes;
 mod cause;
 mod claim;
 mod contents;
+mod cuts;
 mod disk_store;
 mod folder;
 mod heard;

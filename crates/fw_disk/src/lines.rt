@@ -1,7 +1,11 @@
 //! The lines of the file `run`: of each record its id and its digest.
-ghost use Rattle.std.specs.Prelude.{◌≡◌, ◌↔◌, ℕ, List, [], ◌∷◌, Some, None, IsTrue, IsSome, IfOk, OnOk, OnErr, unwrap_or, string_bytes};
-ghost use Rattle.fw_disk.specs.RunLines.{digest_line, digests_of, digests_under, are_any, MayStand};
+ghost use Rattle.std.specs.Fmt.{decimal};
+ghost use Rattle.hex.specs.Hex.{encode_lower};
+ghost use Rattle.std.specs.Prelude.{◌≡◌, ◌↔◌, ℕ, ◌<◌, ◌≤◌, ◌^◌, List, [], ◌∷◌, ◌++◌, length, reverse, true, Some, None, IsTrue, IsSome, IfNone, IfOk, IfSome, OnOk, OnErr, unwrap_or, string_bytes};
+ghost use Rattle.fw_disk.specs.RunLines.{digest_line, line_words, IsDigest, IsRecordLine, AreEntries, whole_lines, line_told, told_then, digests_told, if_any, only_of, lines_under, text_of};
+ghost use Rattle.fw_disk.specs.RunLines.{digests_of, digests_under, are_any, MayStand};
 
+use crate::cuts::split_at_byte;
 use hex::FromHex;
 use std::alloc::{AllocError, Global};
 use std::collections::BTreeMap;
@@ -50,7 +54,9 @@ impl RunLines {
     }
 
     /// The digest of an id that has one alone.
-    pub(crate) fn only(&self, id: u64) -> Option<Digest> {
+    pub(crate) fn only(&self, id: u64) -> Option<Digest>
+        ensures { result ≡ only_of (digests_under self.now.told id) }
+    {
         match self.told.get(&id)?.as_slice() {
             [digest] => Some(*digest),
             _ => None,
@@ -142,7 +148,9 @@ impl RunLines {
     }
 
     /// Whether most lines, and more than a few, are of ids that are gone.
-    pub(crate) fn are_mostly_gone(&self) -> bool {
+    pub(crate) fn are_mostly_gone(&self) -> bool
+        ensures { result ≡ true → 64 ≤ self.now.gone }
+    {
         self.gone >= FEW && self.gone > self.told.len() / 2
     }
 
@@ -154,51 +162,166 @@ impl RunLines {
         self.gone = 0;
     }
 
-    /// The lines of the ids that are not gone.
-    pub(crate) fn text(&self) -> Result<String, AllocError> {
+    /// The lines of the ids that are not gone. Who reads them finds under each id the digests that it has here, in the other order.
+    pub(crate) fn text(&self) -> Result<String, AllocError>
+        ensures text { IfOk result (λ text. string_bytes text ≡ text_of self.now.told.entries) }
+        ensures told { IfOk result (λ text. AreEntries self.now.told.entries → (id : ℕ) → digests_told (whole_lines (string_bytes text)) id ≡ reverse (digests_under self.now.told id)) }
+    {
+        let text = self.all_lines()?;
+        Ok(text)
+    }
+
+    // The lines of each id after the other.
+    fn all_lines(&self) -> Result<String, AllocError>
+        ensures { IfOk result (λ text. string_bytes text ≡ text_of self.now.told.entries) }
+    {
         let mut text = String::new(self.alloc);
         for (id, digests) in &self.told {
-            for digest in digests {
-                text.push_str(&line_of(self.alloc, *id, digest)?)?;
-            }
+            push_lines(self.alloc, &mut text, *id, digests.as_slice())?;
         }
         Ok(text)
     }
+}
+
+// Writes the lines of an id behind a text.
+#[tactic(auto, using(crate::proofs::TextLaws::lines_from))]
+fn push_lines(
+    alloc: Global,
+    text: &mut String,
+    id: u64,
+    digests: &[Digest],
+) -> Result<(), AllocError>
+    ensures { OnOk result (string_bytes text.new ≡ string_bytes text.old ++ lines_under id digests.now) }
+{
+    for digest in digests {
+        text.push_str(&line_of(alloc, id, digest)?)?;
+    }
+    Ok(())
 }
 
 /// The line of a record.
 pub(crate) fn line_of(alloc: Global, id: u64, digest: &Digest) -> Result<String, AllocError>
     ensures { IfOk result (λ line. string_bytes line ≡ digest_line id digest.now) }
 {
-    let digits = hex::encode(alloc, digest.as_slice())?;
-    let mut line = format!(in alloc; "{id} ")?;
-    line.push_str(&digits)?;
+    let mut line = words_of(alloc, id, digest)?;
     line.push('\n')?;
     Ok(line)
 }
 
-/// What the lines of a file tell. What is no whole line is passed over.
-pub(crate) fn lines_in(alloc: Global, text: &[u8]) -> Result<RunLines, AllocError> {
+// The same without its line feed.
+fn words_of(alloc: Global, id: u64, digest: &Digest) -> Result<String, AllocError>
+    ensures { IfOk result (λ words. string_bytes words ≡ line_words id digest.now) }
+{
+    let digits = hex::encode(alloc, digest.as_slice())?;
+    let mut words = format!(in alloc; "{id} ")?;
+    words.push_str(&digits)?;
+    Ok(words)
+}
+
+/// What the lines of a text tell. What is no whole line of a record, as `line_of` writes it, is passed over.
+pub(crate) fn lines_in(alloc: Global, text: &[u8]) -> Result<RunLines, AllocError>
+    ensures { IfOk result (λ lines. (id : ℕ) → digests_of lines.told id ≡ if_any (digests_told (whole_lines text.now) id)) }
+{
     let mut lines = RunLines::new(alloc);
-    let Some(end) = text.iter().rposition(|byte| *byte == b'\n') else {
-        return Ok(lines);
-    };
-    for line in text[..end].split(|byte| *byte == b'\n') {
+    let mut rest = text;
+    while let Some((line, later)) = first_line(rest) {
         add_told(&mut lines, line)?;
+        rest = later;
     }
     Ok(lines)
 }
 
+// The first line of a text, without its line feed, and what stands behind it; none, where no line feed is in it.
+fn first_line(text: &[u8]) -> Option<(&[u8], &[u8])>
+    ensures none { IfNone result (whole_lines text.now ≡ []) }
+    ensures first { IfSome result (λ parts. whole_lines text.now ≡ parts.0.now ∷ whole_lines parts.1.now) }
+    ensures shorter { IfSome result (λ parts. length parts.1.now < length text.now) }
+{
+    let (line, later) = split_at_byte(text, b'\n')?;
+    Some((line, later))
+}
+
 // Adds what a line tells; nothing, where it is no line of a record.
-fn add_told(lines: &mut RunLines, line: &[u8]) -> Result<(), AllocError> {
-    let Ok(line) = str::from_utf8(line) else {
+fn add_told(lines: &mut RunLines, line: &[u8]) -> Result<(), AllocError>
+    ensures { (id : ℕ) (before : List (List ℕ)) → digests_of lines.old.told id ≡ if_any before
+        → OnOk result (digests_of lines.new.told id ≡ if_any (told_then line.now id before)) }
+{
+    let Some(told) = told_in(lines.alloc, line)? else {
         return Ok(());
     };
-    let Some((id, digits)) = line.split_once(' ') else {
-        return Ok(());
-    };
-    let (Ok(id), Ok(digest)) = (id.parse::<u64>(), <[u8; 32] as FromHex>::from_hex(digits)) else {
-        return Ok(());
-    };
-    lines.add(id, digest)
+    let digest = told.1;
+    lines.add(told.0, digest)
+}
+
+// The id and the digest that a line tells; none, where it is no line of a record.
+fn told_in(alloc: Global, line: &[u8]) -> Result<Option<(u64, Digest)>, AllocError>
+    ensures { IfOk result (λ told. told ≡ line_told line.now) }
+{
+    match parts_of(line) {
+        Some(told) => if_written(alloc, line, told),
+        None => Ok(None),
+    }
+}
+
+// This id and this digest, where a line has the words in which they are written.
+fn if_written(
+    alloc: Global,
+    line: &[u8],
+    told: (u64, Digest),
+) -> Result<Option<(u64, Digest)>, AllocError>
+    ensures written { IfOk result (λ found. line.now ≡ line_words told.0 told.1 → found ≡ Some told) }
+    ensures other { IfOk result (λ found. (line.now ≡ line_words told.0 told.1 → ⊥) → found ≡ None) }
+{
+    let digest = told.1;
+    let words = words_of(alloc, told.0, &digest)?;
+    if line == words.as_bytes() {
+        Ok(Some(told))
+    } else {
+        Ok(None)
+    }
+}
+
+// The id and the digest that a line spells; it may spell them in other words than `line_of` has.
+fn parts_of(line: &[u8]) -> Option<(u64, Digest)>
+    ensures ranges { IfSome result (λ parts. (parts.0 < 2 ^ 64) × IsDigest parts.1) }
+    ensures found { (id : ℕ) (digest : List ℕ) → IsRecordLine id digest line.now → result ≡ Some (id, digest) }
+{
+    let (id, digits) = split_at_byte(line, b' ')?;
+    let text = text_in(id)?;
+    let number = number_in(text)?;
+    let digest = digest_in(digits)?;
+    Some((number, digest))
+}
+
+// These bytes as a text, if they are one, as the digits of a number are.
+fn text_in(bytes: &[u8]) -> Option<&str>
+    ensures text { IfSome result (λ text. text.now ≡ bytes.now) }
+    ensures found { (id : ℕ) → id < 2 ^ 64 → bytes.now ≡ decimal id → IsSome result }
+{
+    match str::from_utf8(bytes) {
+        Ok(text) => Some(text),
+        Err(_) => None,
+    }
+}
+
+// The number that a text spells.
+fn number_in(text: &str) -> Option<u64>
+    ensures ranges { IfSome result (λ id. id < 2 ^ 64) }
+    ensures found { (id : ℕ) → id < 2 ^ 64 → text.now ≡ decimal id → result ≡ Some id }
+{
+    match text.parse::<u64>() {
+        Ok(id) => Some(id),
+        Err(_) => None,
+    }
+}
+
+// The digest that hexadecimal digits spell.
+fn digest_in(digits: &[u8]) -> Option<Digest>
+    ensures ranges { IfSome result (λ digest. IsDigest digest) }
+    ensures found { (digest : List ℕ) → IsDigest digest → digits.now ≡ encode_lower digest → result ≡ Some digest }
+{
+    match <[u8; 32] as FromHex>::from_hex(digits) {
+        Ok(digest) => Some(digest),
+        Err(_) => None,
+    }
 }

@@ -14,6 +14,6 @@ pub returns-clause-of_run : goal.returns-clause-of_run
 returns-clause-of_run g c = c.append.ensures.of_run refl
 
 pub returns-clause-told : goal.returns-clause-told
-returns-clause-told g c has =
+returns-clause-told g c =
     let old = calls_of c.args.folder.now.calls in
-    (_, c.in_ok-text.ensures, subst (λ bytes. IsLonger Run bytes old (calls_of c.append.new.self.calls)) c.as_bytes.ensures.value (c.in_ok-append.ensures.longer has))
+    (_, c.in_ok-text.ensures, subst (λ bytes. IsLonger c.args.has_line Run bytes old (calls_of c.append.new.self.calls)) c.as_bytes.ensures.value c.in_ok-append.ensures.longer)

@@ -1,6 +1,7 @@
-use Rattle.std.proofs.Common.{is_ok, true, false, refl}
+use Rattle.std.proofs.Common.{is_ok, true, false, refl, subst}
 use Rattle.fw_disk.specs.FolderCalls.{calls_of, removed, folder_flushed}
 use Rattle.fw_disk.specs.RunLines.{digest_line}
+use Rattle.fw_disk.specs.Survival.{IsLineWritten}
 use Rattle.fw_disk.specs.declared.cause.DiskPlace.TheVariants.{Record}
 use Rattle.fw_disk.proofs.LineMoments.{early_made, early_refused, early_run, known_made, told, late_all, late_next}
 use Rattle.fw_disk.proofs.PutMoments.{then_puts, run_puts, removed_beside, beside_made, beside_refused, beside_ready, still_ready, flush_puts, flushed_on_disk, undone}
@@ -123,7 +124,7 @@ returns-in_err-give_name-clause-line g c has start known =
     let named = calls_of c.give_name.new.self.calls in
     let early = early_made id contents line start old gone beside (is_ok c.remove.result) c.remove.ensures c.in_ok-make.ensures.done in
     let still = known_made id contents line start old gone beside (is_ok c.remove.result) c.remove.ensures c.in_ok-make.ensures.done known in
-    let late = late_all id contents line start old written named c.give_name.ensures.beside (told id contents c.args.digest.now start old beside written early c.tell.ensures.of_run still (c.in_ok-tell.ensures.told has)) in
+    let late = late_all id contents line start old written named c.give_name.ensures.beside (told id contents c.args.digest.now start old beside written early c.tell.ensures.of_run still (subst (λ flushes. IsLineWritten flushes id c.args.digest.now beside written) has c.in_ok-tell.ensures.told)) in
     late.0
 
 pub returns-in-Ok-clause-line : goal.returns-in-Ok-clause-line
@@ -138,7 +139,7 @@ returns-in-Ok-clause-line g c has start known =
     let named = calls_of c.give_name.new.self.calls in
     let early = early_made id contents line start old gone beside (is_ok c.remove.result) c.remove.ensures c.in_ok-make.ensures.done in
     let still = known_made id contents line start old gone beside (is_ok c.remove.result) c.remove.ensures c.in_ok-make.ensures.done known in
-    let late = late_all id contents line start old written named c.give_name.ensures.beside (told id contents c.args.digest.now start old beside written early c.tell.ensures.of_run still (c.in_ok-tell.ensures.told has)) in
+    let late = late_all id contents line start old written named c.give_name.ensures.beside (told id contents c.args.digest.now start old beside written early c.tell.ensures.of_run still (subst (λ flushes. IsLineWritten flushes id c.args.digest.now beside written) has c.in_ok-tell.ensures.told)) in
     (late_next id contents line start old named (calls_of c.flush.new.self.calls) (folder_flushed true) refl c.in-Ok.ensures late).0
 
 pub returns-in-Err-clause-line : goal.returns-in-Err-clause-line
@@ -153,7 +154,7 @@ returns-in-Err-clause-line g c has start known =
     let named = calls_of c.give_name.new.self.calls in
     let early = early_made id contents line start old gone beside (is_ok c.remove.result) c.remove.ensures c.in_ok-make.ensures.done in
     let still = known_made id contents line start old gone beside (is_ok c.remove.result) c.remove.ensures c.in_ok-make.ensures.done known in
-    let late = late_all id contents line start old written named c.give_name.ensures.beside (told id contents c.args.digest.now start old beside written early c.tell.ensures.of_run still (c.in_ok-tell.ensures.told has)) in
+    let late = late_all id contents line start old written named c.give_name.ensures.beside (told id contents c.args.digest.now start old beside written early c.tell.ensures.of_run still (subst (λ flushes. IsLineWritten flushes id c.args.digest.now beside written) has c.in_ok-tell.ensures.told)) in
     let flushed = calls_of c.flush.new.self.calls in
     (late_next id contents line start old flushed (calls_of c.remove-in-Err.new.self.calls) (removed (Record id) (is_ok c.remove-in-Err.result)) refl c.remove-in-Err.ensures
     (late_next id contents line start old named flushed (folder_flushed false) refl c.in-Err.ensures late)).0

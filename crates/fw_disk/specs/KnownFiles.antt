@@ -1,0 +1,22 @@
+-- Files whose bytes are known.
+use Rattle.std.specs.Prelude.{◌≡◌, ◌⊎◌, ℕ, List, [], Option, Vec, IfSome}
+use Rattle.std.specs.BTreeMap.{BTreeMap}
+use Rattle.std.specs.declared.alloc.Global.{Global}
+use Rattle.std.specs.Io.KnownBytes.{Appends}
+use Rattle.fw_disk.specs.RunLines.{digests_of, digests_told, if_any, whole_lines}
+
+-- A file has these bytes behind those that it had as it was opened, where it tells them.
+abbrev pub HasGrown : {F : Type 0} → (F → Option (List ℕ)) → F → List ℕ → Type 0
+HasGrown {F} contents file bytes = (opened : F) × Appends (contents opened) (contents file) bytes
+
+-- These are the bytes of a file that was opened, where it tells them.
+abbrev pub AreRead : {F : Type 0} → (F → Option (List ℕ)) → List ℕ → Type 0
+AreRead {F} remaining bytes = (opened : F) × IfSome (remaining opened) (λ known. bytes ≡ known)
+
+-- Of the file `run`: its bytes, where it was there; none, where it was not.
+abbrev pub IsRunText : {F : Type 0} → (F → Option (List ℕ)) → List ℕ → Type 0
+IsRunText remaining text = (text ≡ []) ⊎ AreRead remaining text
+
+-- A table has under each id the digests that the lines of that file tell.
+abbrev pub TellRead : {F : Type 0} → (F → Option (List ℕ)) → BTreeMap ℕ (Vec (List ℕ) Global) → Type 0
+TellRead remaining told = (text : List ℕ) × IsRunText remaining text × ((id : ℕ) → digests_of told id ≡ if_any (digests_told (whole_lines text) id))

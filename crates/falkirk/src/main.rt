@@ -5,7 +5,7 @@
 use fw_advice::{AckSink, Call, Ended, Program, tell_after, warn_before};
 use fw_choosing::{falkirk_choose, is_choosing, names_of_texts};
 use fw_lines::INPUTS_LIMIT;
-use fw_live::{StreamLines, falkirk_live, is_live};
+use fw_live::{StreamLines, falkirk_live, is_live, name_of_text};
 use fw_outside::{FaultlessStore, Sink};
 use fw_run::{Status, falkirk};
 use fw_telling::{ReadFolder, TellingSink, read_texts};
@@ -80,8 +80,11 @@ fn answer_lines<O: Sink, N: Sink>(
     notes: &mut N,
 ) -> Ended {
     let alloc = rt.alloc();
-    let name = name_of_flow(words);
-    let Ok(mut folder) = ReadFolder::read(alloc, rt, name, INPUTS_LIMIT) else {
+    let folder = match name_of_text(words) {
+        Some(name) => ReadFolder::read(alloc, rt, &[name], INPUTS_LIMIT),
+        None => ReadFolder::read(alloc, rt, &[], INPUTS_LIMIT),
+    };
+    let Ok(mut folder) = folder else {
         return without_memory(notes);
     };
     let store = FaultlessStore::new(alloc);
@@ -90,14 +93,6 @@ fn answer_lines<O: Sink, N: Sink>(
     Ended {
         number: status.number(),
         refusal: status.refusal(),
-    }
-}
-
-// The name of the text that is read: that of the flow, where the words are a session's command.
-fn name_of_flow<'a>(words: &'a [&'a str]) -> &'a [&'a str] {
-    match words {
-        [_, _] | [_, _, "auto"] => words.get(1..2).unwrap_or(&[]),
-        _ => &[],
     }
 }
 

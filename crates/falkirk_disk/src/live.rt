@@ -12,7 +12,7 @@ use fw_flow::{Flow, NodeId};
 use fw_hold::HoldFault;
 use fw_lasting::{LastingSession, Resumed};
 use fw_lines::INPUTS_LIMIT;
-use fw_live::{Live, ServeFault, StreamLines, last_line, parse, serve};
+use fw_live::{Live, ServeFault, StreamLines, last_line, parse, serve, status_of};
 use fw_living::LifeFault;
 use fw_outside::{OutFault, Sink, Store};
 use fw_root::Digests;
@@ -66,21 +66,21 @@ fn start<'a, O: Sink>(
     };
     match LastingSession::start(rt.alloc(), flow, digests, store) {
         Ok((session, resumed)) => match answer_all(rt, session, resumed.as_ref(), rests, out) {
-            Ok(()) => Status::Done,
-            Err(fault) => status_of(fault),
+            Ok(status) => status,
+            Err(fault) => status_of_fault(fault),
         },
         Err(failed) => status_of_start(failed.fault),
     }
 }
 
-// Tells what a session goes on from, and answers the lines that come in; then writes the last line.
+// Tells what a session goes on from, and answers the lines that come in; then writes the last line, which the status tells too.
 fn answer_all<'a, O: Sink>(
     rt: &HostRuntime,
     session: LastingSession<DiskStore<'a, HostRuntime>>,
     resumed: Option<&Resumed>,
     rests: bool,
     out: &mut O,
-) -> Result<(), ServeFault> {
+) -> Result<Status, ServeFault> {
     let alloc = rt.alloc();
     let mut session = session;
     tell_opening(alloc, &mut session, resumed, out)?;
@@ -89,10 +89,11 @@ fn answer_all<'a, O: Sink>(
     };
     let mut lines = StreamLines::new(rt.stdin().lock());
     serve(alloc, &mut live, &mut lines, out)?;
-    match last_line(alloc, live.counts()) {
-        Ok(line) => write(out, line.as_bytes()),
-        Err(AllocError) => Err(ServeFault::NoMemory),
-    }
+    let Ok(line) = last_line(alloc, live.counts()) else {
+        return Err(ServeFault::NoMemory);
+    };
+    write(out, line.as_bytes())?;
+    Ok(status_of(live.counts()))
 }
 
 // Keeps where the start led, then writes what it goes on from.
@@ -191,7 +192,7 @@ fn status_of_start(fault: HoldFault) -> Status {
 }
 
 // The status that tells why no more lines are answered.
-fn status_of(fault: ServeFault) -> Status {
+fn status_of_fault(fault: ServeFault) -> Status {
     match fault {
         ServeFault::Read => Status::ReadFault,
         ServeFault::Write => Status::WriteFault,

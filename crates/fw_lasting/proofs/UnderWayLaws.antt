@@ -1,6 +1,6 @@
 -- How a session that lasts goes on.
 use Rattle.std.proofs.Common.{◌≡◌, ◌⊎◌, ℕ, ◌+◌, ◌-◌, ◌<◌, ◌≤◌, ◌^◌, Bool, true, false, cond, nat_lt, List, [], ◌∷◌, ◌++◌, length, map, filter, Option, Some, None, Result, Ok, Err, refl, sym, ap, subst, ◌∙◌, inl, inr, arith}
-use Rattle.std.specs.Prelude.{IfOk, IsErrOf, IsSome, OnErr}
+use Rattle.std.specs.Prelude.{IfOk, IfSome, IsErrOf, IsSome, OnErr}
 use Rattle.std.specs.FinMap as map_of
 use Rattle.std.specs.List.{AllByRecursion, Contains}
 use Rattle.std.specs.Option.{ForSome}
@@ -28,7 +28,9 @@ use Rattle.fw_keep.proofs.IdLaws.{among-self}
 use Rattle.fw_lines.specs.Batches.{IsBatch}
 use Rattle.fw_lemmas.proofs.Each.{each-one, each-weaker}
 use Rattle.fw_lemmas.proofs.Filters.{filter-same_on}
-use Rattle.fw_living.specs.Life.{came_in_story, AutoGoesOn, GoesOnByAuto}
+use Rattle.fw_living.specs.declared.fault.LifeFault.{LifeFault}
+use Rattle.fw_living.specs.declared.fault.LifeFault.TheVariants as life
+use Rattle.fw_living.specs.Life.{came_in_story, life_faults_after, CountsKeeping, AutoGoesOn, GoesOnByAuto}
 use Rattle.fw_model.specs.Auto.{AreIdle, IsFirstEnabled, acknowledgements, deliveries, notifications}
 use Rattle.fw_model.specs.History.{injected_count}
 use Rattle.fw_model.specs.Machine.{Machine, events}
@@ -40,15 +42,18 @@ use Rattle.fw_root.specs.Spelling.{root_spelling}
 use Rattle.fw_running.specs.declared.fault.EngineFault.{EngineFault}
 use Rattle.fw_running.specs.declared.fault.EngineFault.TheVariants as fault
 use Rattle.fw_running.specs.declared.stepped.Stepped.{Stepped}
+use Rattle.fw_running.specs.Faults.{faults_after_step}
 use Rattle.fw_running.specs.Fed.{auto_steps_within}
 use Rattle.fw_running.specs.Steps.{outcome_of}
 use Rattle.fw_session.specs.declared.arrivals.Arrivals.{Arrivals}
 use Rattle.fw_session.specs.Session.{came_in, is_open_in, FirstGoesOn, GoesOnBy, GoesOnFirst, GoesOnTo, IsAt, IsLeftAt, StepGoesOn}
 use Rattle.fw_session.specs.Story.{Story, IsStory, system_now, came_to, after_feed, after_close, after_step, fed_batches, open_but}
 use Rattle.fw_session.proofs.SessionLaws.{at-stays}
+use Rattle.fw_session.proofs.StoryLaws.{story-open}
 use Rattle.fw_lasting.specs.KeptStory.{HoldsStory, IsRootOfStory}
 use Rattle.fw_lasting.specs.RootOver.{IsRootOver}
-use Rattle.fw_lasting.specs.UnderWay.{IsNextRoot, IsUnderWay, KeepsEither, LeavesRecords, SaysLast, StandsAgain, StillHolds, keep_again, flow_again}
+use Rattle.fw_lasting.specs.UnderWay.{of_sweep, CountsPutting, IsNextRoot, IsUnderWay, KeepsEither, LeavesRecords, SaysLast, StandsAgain, StillHolds, keep_again, flow_again}
+use Rattle.fw_lasting.proofs.CameLaws.{came-few}
 use Rattle.fw_lasting.proofs.HoldLaws.{put-closed, put-fed}
 use Rattle.fw_lasting.proofs.KeepLaws.{came-stays, drawn-leave, root-put, root-stays, roots-kept, roots-left, told-over}
 
@@ -183,6 +188,46 @@ kept-count digests made arrivals records turn kept now s is_open u = (
   u.at.counts s ∙ ap length (came-same (flow_of made.engine) now kept s u.same_batches u.same_opened),
   ap (λ g. g s) (sym u.same_opened) ∙ sym (u.at.opens s) ∙ is_open,
 )
+
+-- nothing is under the id of the batch that comes next
+none-there : (digests : Digests) (made : RestartableEngine) (arrivals : Arrivals) (records : Option Records) (turn : ℕ) (kept now : Story) (s : ℕ)
+    → is_open_in arrivals s ≡ true → IsUnderWay digests made.engine arrivals records turn kept now → (held : Records) → records ≡ Some held
+    → map_of.get held (batch_id s (came_in arrivals s)) ≡ None
+none-there digests made arrivals records turn kept now s is_open u held told =
+    let flow = flow_of made.engine in
+    let k = kept-count digests made arrivals records turn kept now s is_open u in
+    let h = u.holds held told in
+    let few = came-few flow kept h.of_story s in
+    subst (λ n. map_of.get held (batch_id s n) ≡ None) (sym k.0)
+    ((h.came s ((story-open flow kept h.of_story).input s k.1)).none (length (came_to flow kept.now s)) (omega arith) (omega (arith, few)))
+
+-- a batch is put: where its session is at a story, and the store tells its records, nothing was in its place
+pub counts-keeping : (fault2 : LifeFault) (digests : Digests) (made : RestartableEngine) (arrivals : Arrivals)
+    (before after : Option Records) (turn s n m : ℕ) → is_open_in arrivals s ≡ true → (IsSome after → after ≡ before)
+    → CountsPutting {T = Unit {0}} (Err fault2) (batch_id s (came_in arrivals s)) after n m
+    → CountsKeeping {T = ℕ} (Err fault2) after (λ now. (kept : Story) × IsUnderWay digests made.engine arrivals before turn kept now) n m
+counts-keeping fault2 digests made arrivals before after turn s n m is_open same (inl e) = inl (e ∙ either fault2)
+  where
+    either : (f : LifeFault) → life_faults_after {T = Unit {0}} (Err f) n ≡ life_faults_after {T = ℕ} (Err f) n
+    either life.NotFed = refl
+    either life.StoreFault = refl
+    either life.NoMemory = refl
+counts-keeping fault2 digests made arrivals before after turn s n m is_open same (inr (e, there)) = inr (e, λ told now at. in-place after told there (same told) at)
+  where
+    in-place : (records : Option Records) → IsSome records → IfSome records (λ held. IsSome (map_of.get held (batch_id s (came_in arrivals s))))
+        → records ≡ before → {now : Story} → (kept : Story) × IsUnderWay digests made.engine arrivals before turn kept now → ⊥
+    in-place None told there same at = false≢true told
+    in-place (Some held) told there same {now} at = nothing (map_of.get held (batch_id s (came_in arrivals s))) there
+        (none-there digests made arrivals before turn at.0 now s is_open at.1 held (sym same))
+      where
+        nothing : {A : Type 0} (found : Option A) → IsSome found → found ≡ None → ⊥
+        nothing (Some x) some none = absurd cc
+        nothing None some none = false≢true some
+
+-- one that was put did not fail
+pub put-done : {T : Type 0} (x : T) (id : ℕ) (records : Option Records) (n m : ℕ) → CountsPutting (Ok x) id records n m → m ≡ n
+put-done x id records n m (inl e) = e
+put-done x id records n m (inr e) = e.0
 
 -- where the engine is not fed with it, it is held all the same
 pub fed-left : (digests : Digests) (made : RestartableEngine) (before : Arrivals) (old new : Option Records) (turn : ℕ) (kept now : Story) (s : ℕ)
@@ -346,6 +391,13 @@ none-left digests engine arrivals before after turn kept now other same u =
     λ held told. (turn, (keep_of engine).next, inl (u.holds held (sym same ∙ told)))
 
 -- ---- a sweep behind it
+
+-- how often the store failed in one that was not done
+pub sweep-counts : (fault2 : EngineFault) (n m : ℕ) → m ≡ faults_after_step {T = Unit {0}} (Err fault2) n
+    → ((id : ℕ) → IsErrOf {T = Unit {0}} (Err fault2) (fault.Damaged id) → ⊥) → m ≡ life_faults_after {T = Unit {0}} (Err (of_sweep fault2)) n
+sweep-counts fault.StoreFault n m e whole = e
+sweep-counts (fault.Damaged id) n m e whole = absurd (whole id refl)
+sweep-counts fault.NoMemory n m e whole = e
 
 -- what a sweep leaves of the records
 pub record SweepLeaves (old : Engine) (before : Option Records) (new : Engine) (after : Option Records) : Type 0 where

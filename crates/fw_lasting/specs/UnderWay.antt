@@ -1,5 +1,6 @@
 -- Where a session that lasts stands: the story at which it is, and the one that its store holds.
-use Rattle.std.specs.Prelude.{◌≡◌, ◌⊎◌, ℕ, ◌+◌, ◌^◌, ◌<◌, ◌≤◌, if◌then◌else◌, nat_lt, List, Option, Result, Ok, Err}
+use Rattle.std.specs.Prelude.{◌≡◌, ◌⊎◌, ℕ, ◌+◌, ◌^◌, ◌<◌, ◌≤◌, if◌then◌else◌, nat_lt, List, Option, IfSome, IsSome, Result, Ok, Err}
+use Rattle.std.specs.FinMap as map
 use Rattle.std.specs.Option.{ForSome}
 use Rattle.fw_engine.specs.declared.engine.Engine.{Engine}
 use Rattle.fw_engine.specs.Engine.{flow_of, keep_of, StandsFor}
@@ -8,11 +9,15 @@ use Rattle.fw_held.specs.declared.restartable.RestartableEngine.{RestartableEngi
 use Rattle.fw_hold.specs.Engine.{IsRootIn, KeepsOutside, Standings}
 use Rattle.fw_keep.specs.Catalogue.{KeepState}
 use Rattle.fw_keep.specs.Stored.{HasEntries, Records}
+use Rattle.fw_living.specs.declared.fault.LifeFault.{LifeFault}
+use Rattle.fw_living.specs.declared.fault.LifeFault.TheVariants as life
+use Rattle.fw_living.specs.Life.{life_faults_after}
 use Rattle.fw_root.specs.declared.root.Digests.{Digests}
 use Rattle.fw_root.specs.declared.root.Mark.{Mark}
 use Rattle.fw_root.specs.declared.root.Root.{Root}
 use Rattle.fw_root.specs.Sound.{IsMark}
 use Rattle.fw_running.specs.declared.fault.EngineFault.{EngineFault}
+use Rattle.fw_running.specs.declared.fault.EngineFault.TheVariants as fault
 use Rattle.fw_running.specs.declared.stepped.Stepped.{Stepped}
 use Rattle.fw_running.specs.declared.stepped.Stepped.TheVariants.{Did, Idle}
 use Rattle.fw_session.specs.declared.arrivals.Arrivals.{Arrivals}
@@ -20,7 +25,7 @@ use Rattle.fw_session.specs.Session.{IsAt}
 use Rattle.fw_session.specs.Story.{Story}
 use Rattle.fw_lasting.specs.KeptStory.{HoldsStory, IsRootOfStory}
 
--- A session is under way: it is at a story, and its store, where it tells its records, holds one of which that goes on by steps alone.
+-- A session is under way: it is at a story, and its store, where it tells its records, holds one with the same batches and the same open sources.
 pub record IsUnderWay (digests : Digests) (engine : Engine) (arrivals : Arrivals) (records : Option Records) (turn : ℕ) (kept now : Story)
     : Type 0 where
   pub at : IsAt engine records arrivals now
@@ -32,7 +37,7 @@ pub record IsUnderWay (digests : Digests) (engine : Engine) (arrivals : Arrivals
 abbrev pub steps_after : ℕ → Result Stepped EngineFault → ℕ
 steps_after steps (Ok Idle) = steps
 steps_after steps (Ok (Did effect)) = if nat_lt steps (2 ^ 62) then steps + 1 else steps
-steps_after steps (Err fault) = steps
+steps_after steps (Err e) = steps
 
 -- where the store tells its records, they hold the story
 abbrev pub StillHolds : Dataflow → Digests → Option Records → Story → Type 0
@@ -56,6 +61,19 @@ pub record LeavesRecords (old : Engine) (before : Option Records) (new : Engine)
   pub outside : KeepsOutside (keep_of old).next (keep_of new).next before after
   pub drawn : (keep_of new).next ≤ (keep_of old).next + 256
   pub never_back : (keep_of old).next ≤ (keep_of new).next
+
+-- ---- how often the store fails
+
+-- A record was put under an id of its own, and so often the store failed behind that; that one lay there is a fault too, and is not counted.
+abbrev pub CountsPutting : {T : Type 0} → Result T LifeFault → ℕ → Option Records → ℕ → ℕ → Type 0
+CountsPutting result id records before after =
+    (after ≡ life_faults_after result before) ⊎ ((after ≡ before) × IfSome records (λ held. IsSome (map.get held id)))
+
+-- why a sweep was not done
+abbrev pub of_sweep : EngineFault → LifeFault
+of_sweep fault.StoreFault = life.StoreFault
+of_sweep (fault.Damaged id) = life.StoreFault
+of_sweep fault.NoMemory = life.NoMemory
 
 -- ---- the next root
 

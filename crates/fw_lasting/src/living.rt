@@ -21,6 +21,8 @@ impl<K: Store + Drop> Living for LastingSession<K> {
 
     ghost records = { λ session. (K.view session.store).records };
 
+    ghost fault_count = { λ session. (K.view session.store).faults };
+
     ghost at = { λ session story. (kept : Story) × IsUnderWay session.digests session.engine.engine session.arrivals
         (K.view session.store).records session.turn kept story };
 

@@ -1,5 +1,5 @@
 //! What a session puts into its store: batches, and roots.
-ghost use Rattle.std.specs.Prelude.{◌≡◌, ◌+◌, ◌<◌, ◌^◌, Some, IfOk, OnErr, OnOk, IsErrOf};
+ghost use Rattle.std.specs.Prelude.{◌≡◌, ◌+◌, ◌<◌, ◌^◌, Some, IfOk, OnErr, OnOk, IsErr, IsErrOf};
 ghost use Rattle.std.specs.FinMap as map;
 ghost use Rattle.std.specs.Option.{ForSome};
 ghost use Rattle.fw_bag.specs.Keyed.{sorted_recs};
@@ -8,7 +8,8 @@ ghost use Rattle.fw_hold.specs.Found.{ChangesOnly, IsLeftOrGone};
 ghost use Rattle.fw_hold.specs.Kept.{root_id};
 ghost use Rattle.fw_lines.specs.Batches.{IsBatch};
 ghost use Rattle.fw_root.specs.Spelling.{root_spelling};
-ghost use Rattle.fw_lasting.specs.UnderWay.{IsNextMark, IsNextRoot};
+ghost use Rattle.fw_living.specs.Life.{life_faults_after};
+ghost use Rattle.fw_lasting.specs.UnderWay.{CountsPutting, IsNextMark, IsNextRoot};
 
 use fw_bag::{Bag, Rec};
 use fw_came::{batch_bytes, batch_id};
@@ -39,6 +40,7 @@ pub(crate) fn put_batch<K: Store>(
     ensures batch { OnOk result (IsBatch (sorted_recs recs.now)) }
     ensures others { ChangesOnly (came.batch_id source epoch) (K.view store.old).records (K.view store.new).records }
     ensures not_put { OnErr result ((K.view store.new).records ≡ (K.view store.old).records) }
+    ensures faults { CountsPutting result (came.batch_id source epoch) (K.view store.new).records (K.view store.old).faults (K.view store.new).faults }
     ensures known { IsErrOf result LifeFault.NotFed → ⊥ }
 {
     let Ok(place) = u32::try_from(epoch) else {
@@ -65,6 +67,7 @@ fn put_new<K: Store>(id: u64, bytes: Vec<u8>, store: &mut K) -> Result<(), LifeF
     ensures put { OnOk result (ForSome (K.view store.new).records (λ held. map.get held id ≡ Some bytes.items)) }
     ensures others { ChangesOnly id (K.view store.old).records (K.view store.new).records }
     ensures not_put { OnErr result ((K.view store.new).records ≡ (K.view store.old).records) }
+    ensures faults { CountsPutting result id (K.view store.new).records (K.view store.old).faults (K.view store.new).faults }
     ensures known { IsErrOf result LifeFault.NotFed → ⊥ }
 {
     let Ok(false) = store.has(id) else {
@@ -87,7 +90,7 @@ pub(crate) fn next_root(
     lines: &[u8],
 ) -> Result<Root, LifeFault>
     ensures root { IfOk result (IsNextRoot engine.now digests.now turn steps lines.now) }
-    ensures known { IsErrOf result LifeFault.NotFed → ⊥ }
+    ensures memory { IsErr result → IsErrOf result LifeFault.NoMemory }
 {
     if turn >= MOST - 1 || steps >= MOST {
         return Err(LifeFault::NoMemory);
@@ -134,6 +137,7 @@ pub(crate) fn put_next<K: Store>(alloc: Global, root: &Root, store: &mut K) -> R
         map.get held (root_id root.now.mark.turn) ≡ Some (root_spelling root.now))) }
     ensures others { ChangesOnly (root_id root.now.mark.turn) (K.view store.old).records (K.view store.new).records }
     ensures not_put { OnErr result (IsLeftOrGone (root_id root.now.mark.turn) (K.view store.old).records (K.view store.new).records) }
+    ensures faults { (K.view store.new).faults ≡ life_faults_after result (K.view store.old).faults }
     ensures known { IsErrOf result LifeFault.NotFed → ⊥ }
 {
     match put_root(alloc, root, store) {

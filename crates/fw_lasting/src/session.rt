@@ -5,10 +5,11 @@ ghost use Rattle.fw_engine.specs.Engine.{flow_of, keep_of};
 ghost use Rattle.std.specs.Option.{ForSome};
 ghost use Rattle.fw_flow.specs.declared.step.Step.TheVariants.{Recover};
 ghost use Rattle.fw_keep.specs.Stored.{HasEntries};
+ghost use Rattle.fw_running.specs.Faults.{faults_after_step};
 ghost use Rattle.fw_running.specs.Steps.{MayCallByItself, MayCallStore};
 ghost use Rattle.fw_session.specs.Session.{came_in, is_open_in, StepGoesOn};
 ghost use Rattle.fw_session.specs.Story.{Story, after_close, after_feed};
-ghost use Rattle.fw_living.specs.Life.{AutoGoesOn, life_of};
+ghost use Rattle.fw_living.specs.Life.{life_faults_after, life_of, AutoGoesOn, CountsKeeping};
 ghost use Rattle.fw_lasting.specs.UnderWay as spec;
 ghost use Rattle.fw_lasting.specs.UnderWay.{IsUnderWay, KeepsEither, SaysLast, StillHolds};
 
@@ -63,6 +64,9 @@ impl<K: Store + Drop> LastingSession<K> {
             → OnErr result (KeepsEither (flow_of self.old.engine.engine) self.old.digests (K.view self.new.store).records kept (after_feed source (sorted_recs recs.now) kept)) }
         ensures stays { IsErrOf result LifeFault.NotFed → self.new ≡ self.old }
         ensures flow { flow_of self.new.engine.engine ≡ flow_of self.old.engine.engine }
+        ensures faults { CountsKeeping result (K.view self.new.store).records
+            (λ now. (kept : Story) × IsUnderWay self.old.digests self.old.engine.engine self.old.arrivals (K.view self.old.store).records self.old.turn kept now)
+            (K.view self.old.store).faults (K.view self.new.store).faults }
         ensures told_before { IsSome (K.view self.new.store).records → IsSome (K.view self.old.store).records }
     {
         let epoch = match self.arrivals.next_epoch(source) {
@@ -95,6 +99,9 @@ impl<K: Store + Drop> LastingSession<K> {
             → OnErr result (KeepsEither (flow_of self.old.engine.engine) self.old.digests (K.view self.new.store).records kept (after_close source kept)) }
         ensures stays { IsErrOf result LifeFault.NotFed → self.new ≡ self.old }
         ensures flow { flow_of self.new.engine.engine ≡ flow_of self.old.engine.engine }
+        ensures faults { CountsKeeping result (K.view self.new.store).records
+            (λ now. (kept : Story) × IsUnderWay self.old.digests self.old.engine.engine self.old.arrivals (K.view self.old.store).records self.old.turn kept now)
+            (K.view self.old.store).faults (K.view self.new.store).faults }
         ensures told_before { IsSome (K.view self.new.store).records → IsSome (K.view self.old.store).records }
     {
         if !self.arrivals.is_open(source) {
@@ -128,6 +135,7 @@ impl<K: Store + Drop> LastingSession<K> {
         ensures calls { IsErrOf result EngineFault.StoreFault → MayCallStore (flow_of self.old.engine.engine) step.now }
         ensures tells { step.now ≢ Recover → is_some (K.view self.new.store).records ≡ is_some (K.view self.old.store).records }
         ensures flow { flow_of self.new.engine.engine ≡ flow_of self.old.engine.engine }
+        ensures faults { (K.view self.new.store).faults ≡ faults_after_step result (K.view self.old.store).faults }
         ensures told_before { IsSome (K.view self.new.store).records → IsSome (K.view self.old.store).records }
     {
         if !has_room(&self.engine.engine) {
@@ -157,6 +165,7 @@ impl<K: Store + Drop> LastingSession<K> {
         ensures calls { IsErrOf result EngineFault.StoreFault → MayCallByItself (flow_of self.old.engine.engine) }
         ensures tells { is_some (K.view self.new.store).records ≡ is_some (K.view self.old.store).records }
         ensures flow { flow_of self.new.engine.engine ≡ flow_of self.old.engine.engine }
+        ensures faults { (K.view self.new.store).faults ≡ faults_after_step result (K.view self.old.store).faults }
         ensures told_before { IsSome (K.view self.new.store).records → IsSome (K.view self.old.store).records }
     {
         if !has_room(&self.engine.engine) {
@@ -181,6 +190,8 @@ impl<K: Store + Drop> LastingSession<K> {
             → IsUnderWay self.old.digests self.old.engine.engine self.old.arrivals (K.view self.old.store).records self.old.turn kept now
             → OnErr result (KeepsEither (flow_of self.old.engine.engine) self.old.digests (K.view self.new.store).records kept now) }
         ensures flow { flow_of self.new.engine.engine ≡ flow_of self.old.engine.engine }
+        ensures faults { (K.view self.new.store).faults ≡ life_faults_after result (K.view self.old.store).faults }
+        ensures not_fed { IsErrOf result LifeFault.NotFed → ⊥ }
         ensures told_before { IsSome (K.view self.new.store).records → IsSome (K.view self.old.store).records }
     {
         let root = next_root(
@@ -250,7 +261,9 @@ fn of_feed(fault: FeedFault) -> LifeFault
 }
 
 // Why a sweep was not done.
-fn of_sweep(fault: EngineFault) -> LifeFault {
+fn of_sweep(fault: EngineFault) -> LifeFault
+    ensures { result ≡ spec.of_sweep fault }
+{
     match fault {
         EngineFault::NoMemory => LifeFault::NoMemory,
         _ => LifeFault::StoreFault,

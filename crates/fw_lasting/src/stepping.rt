@@ -4,6 +4,7 @@ ghost use Rattle.fw_engine.specs.Engine.{flow_of, keep_of};
 ghost use Rattle.std.specs.Option.{ForSome};
 ghost use Rattle.fw_flow.specs.declared.step.Step.TheVariants.{Recover};
 ghost use Rattle.fw_keep.specs.Stored.{HasEntries};
+ghost use Rattle.fw_running.specs.Faults.{faults_after_step};
 ghost use Rattle.fw_running.specs.Steps.{MayCallByItself, MayCallStore};
 ghost use Rattle.fw_session.specs.Session.{FirstGoesOn, IsAt, StepGoesOn};
 ghost use Rattle.fw_lasting.specs.UnderWay.{LeavesRecords};
@@ -26,6 +27,7 @@ pub(crate) fn take_step<K: Store>(
     ensures goes_on { StepGoesOn (flow_of engine.old) step.now result (K.view store.new).records
         (IsAt engine.old (K.view store.old).records arrivals.now) (IsAt engine.new (K.view store.new).records arrivals.now) }
     ensures leaves { LeavesRecords engine.old (K.view store.old).records engine.new (K.view store.new).records }
+    ensures faults { (K.view store.new).faults ≡ faults_after_step result (K.view store.old).faults }
     ensures calls { IsErrOf result EngineFault.StoreFault → MayCallStore (flow_of engine.old) step.now }
     ensures tells { step.now ≢ Recover → is_some (K.view store.new).records ≡ is_some (K.view store.old).records }
 {
@@ -50,6 +52,7 @@ pub(crate) fn take_first<K: Store>(
     ensures goes_on { FirstGoesOn (flow_of engine.old) arrivals.now result (IsAt engine.old (K.view store.old).records arrivals.now)
         (IsAt engine.new (K.view store.new).records arrivals.now) }
     ensures leaves { LeavesRecords engine.old (K.view store.old).records engine.new (K.view store.new).records }
+    ensures faults { (K.view store.new).faults ≡ faults_after_step result (K.view store.old).faults }
     ensures calls { IsErrOf result EngineFault.StoreFault → MayCallByItself (flow_of engine.old) }
     ensures tells { is_some (K.view store.new).records ≡ is_some (K.view store.old).records }
 {

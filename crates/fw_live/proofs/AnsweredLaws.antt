@@ -2,7 +2,7 @@
 use Rattle.std.proofs.Common.{◌≡◌, ℕ, ◌+◌, ◌-◌, Bool, true, false, List, [], ◌∷◌, ◌++◌, length, Option, Some, None, Result, Ok, Err, refl, sym, ap, subst, ◌∙◌, arith}
 use Rattle.std.proofs.lemmas.Bool.{false≢true}
 use Rattle.std.proofs.lemmas.List.{append_assoc}
-use Rattle.std.specs.Prelude.{IfOk, IsErrOf}
+use Rattle.std.specs.Prelude.{◌≢◌, IfOk, IsErrOf, IsSome}
 use Rattle.fw_flow.specs.Dataflow.{Dataflow}
 use Rattle.fw_keep.specs.Stored.{Records}
 use Rattle.fw_model.specs.Steps.{Outcome, did, idle}
@@ -14,7 +14,7 @@ use Rattle.fw_live.specs.declared.rule.LineRule.{LineRule}
 use Rattle.fw_live.specs.declared.counts.LineCounts.{LineCounts}
 use Rattle.fw_live.specs.declared.counts.TurnCounts.{TurnCounts}
 use Rattle.fw_live.specs.Answered.{HasAnswered, HasTurned}
-use Rattle.fw_live.specs.Answers.{refused, turned, change_text, ending_text, refused_line, saturated, done_count, counts_ended, counts_stepped, counts_turned, with_line, after_change, rest_item, IsAnswerTo}
+use Rattle.fw_live.specs.Answers.{refused, turned, change_text, ending_text, refused_line, saturated, done_count, counts_ended, counts_stepped, counts_turned, with_line, after_change, rest_item, rests_behind, IsAnswerTo}
 use Rattle.fw_live.specs.Asked.{Asked, allowed, change_fault, unless_fault}
 use Rattle.fw_live.specs.Relies.{GoesOnPrinting, EndsSo, turn_counts, step_counted, IsAskedReliedOn, IsMaybeReliedOn}
 use Rattle.fw_live.specs.Taken.{Ending, all, failed, spoiled, EndsBoth}
@@ -67,67 +67,79 @@ joined old told lines last between after new t l e =
 
 -- steps that ended so were written and counted
 turned-so : (rests : Bool) (flow : Dataflow) (story : Story) (asked : Asked) (ending : Ending) (counts between after : LineCounts)
-    (start turn : TurnCounts) (old told printed new : List ℕ) (At : Story → Type 0) (After : Story → List ℕ → Type 0)
-    → ((s : Story) (shown : List ℕ) → printed ≡ told ++ shown → At s → After s shown) → start ≡ no-turn
-    → told ≡ old ++ change_text flow (came_in_story flow story) asked.change
-    → GoesOnPrinting flow (EndsBoth flow (after_change asked.change story) asked.item (rest_item rests) ending)
+    (start turn : TurnCounts) (old told printed new : List ℕ) (At : Story → Type 0) (After : Story → List ℕ → Type 0) (records : Option Records)
+    → ((s : Story) (shown : List ℕ) → printed ≡ told ++ shown → At s → After s shown)
+    → (IsSome records → (id : ℕ) → ending ≢ spoiled id) → start ≡ no-turn
+    → told ≡ old ++ change_text flow story asked.change
+    → GoesOnPrinting flow (EndsBoth flow (after_change asked.change story) asked.item (rest_item (rests_behind rests asked.change)) ending)
     (record { bytes = told; counts = start }) (record { bytes = printed; counts = turn }) At
     → between ≡ with-turn turn counts → new ≡ printed ++ ending_text ending turn.done → after ≡ counts_ended ending between
-    → HasTurned rests flow story asked counts after old new After
-turned-so rests flow story asked ending counts between after start turn old told printed new At After keeps s t goes b n a =
+    → HasTurned rests flow story asked counts after old new After records
+turned-so rests flow story asked ending counts between after start turn old told printed new At After records keeps whole s t goes b n a =
     let c = stepped-counts goes.outcomes turn counts (goes.counted ∙ ap (turn_counts goes.outcomes) s) in
     record {
-      turn = record { told = change_text flow (came_in_story flow story) asked.change; outcomes = goes.outcomes; ending = ending };
+      turn = record { told = change_text flow story asked.change; outcomes = goes.outcomes; ending = ending };
       next = goes.next;
       turns = record { told = refl; ends = goes.goes_on };
-      written = joined old (change_text flow (came_in_story flow story) asked.change) (outcomes_text flow goes.outcomes)
+      written = joined old (change_text flow story asked.change) (outcomes_text flow goes.outcomes)
           (ending_text ending (saturated (done_count goes.outcomes))) told printed new t goes.printed (n ∙ ap (λ k. printed ++ ending_text ending k) c.0);
       counted = a ∙ ap (counts_ended ending) (b ∙ c.1);
       at = keeps goes.next (outcomes_text flow goes.outcomes) goes.printed goes.at;
+      unharmed = whole;
     }
+
+all≢spoiled : (id : ℕ) → all ≡ spoiled id → ⊥
+all≢spoiled id e = cc
+
+failed≢spoiled : (id : ℕ) → failed ≡ spoiled id → ⊥
+failed≢spoiled id e = cc
 
 pub has-turned : (rests : Bool) (flow : Dataflow) (story : Story) (asked : Asked) (taken : Result (Unit {0}) EngineFault)
     (counts between after : LineCounts) (start turn : TurnCounts) (old told printed new : List ℕ) (At : Story → Type 0)
-    (After : Story → List ℕ → Type 0) → ((s : Story) (shown : List ℕ) → printed ≡ told ++ shown → At s → After s shown)
-    → start ≡ no-turn → told ≡ old ++ change_text flow (came_in_story flow story) asked.change
-    → EndsSo (λ ending. GoesOnPrinting flow (EndsBoth flow (after_change asked.change story) asked.item (rest_item rests) ending)
+    (After : Story → List ℕ → Type 0) (records : Option Records) → ((s : Story) (shown : List ℕ) → printed ≡ told ++ shown → At s → After s shown)
+    → (IsSome records → (id : ℕ) → IsErrOf taken (fault.Damaged id) → ⊥) → start ≡ no-turn → told ≡ old ++ change_text flow story asked.change
+    → EndsSo (λ ending. GoesOnPrinting flow (EndsBoth flow (after_change asked.change story) asked.item (rest_item (rests_behind rests asked.change)) ending)
     (record { bytes = told; counts = start }) (record { bytes = printed; counts = turn }) At) taken
     → between ≡ with-turn turn counts → EndsSo (λ ending. new ≡ printed ++ ending_text ending turn.done) taken
     → EndsSo (λ ending. after ≡ counts_ended ending between) taken → (IsErrOf taken fault.NoMemory → false ≡ true)
-    → HasTurned rests flow story asked counts after old new After
-has-turned rests flow story asked (Ok x) counts between after start turn old told printed new At After keeps s t goes b n a m =
-    turned-so rests flow story asked all counts between after start turn old told printed new At After keeps s t goes b n a
-has-turned rests flow story asked (Err fault.StoreFault) counts between after start turn old told printed new At After keeps s t goes b n a m =
-    turned-so rests flow story asked failed counts between after start turn old told printed new At After keeps s t goes b n a
-has-turned rests flow story asked (Err (fault.Damaged id)) counts between after start turn old told printed new At After keeps s t goes b n a m =
-    turned-so rests flow story asked (spoiled id) counts between after start turn old told printed new At After keeps s t goes b n a
-has-turned rests flow story asked (Err fault.NoMemory) counts between after start turn old told printed new At After keeps s t goes b n a m =
+    → HasTurned rests flow story asked counts after old new After records
+has-turned rests flow story asked (Ok x) counts between after start turn old told printed new At After records keeps whole s t goes b n a m =
+    turned-so rests flow story asked all counts between after start turn old told printed new At After records keeps (λ told id e. all≢spoiled id e) s t goes b n a
+has-turned rests flow story asked (Err fault.StoreFault) counts between after start turn old told printed new At After records keeps whole s t goes b n a m =
+    turned-so rests flow story asked failed counts between after start turn old told printed new At After records keeps (λ told id e. failed≢spoiled id e) s t goes b n a
+has-turned rests flow story asked (Err (fault.Damaged id)) counts between after start turn old told printed new At After records keeps whole s t goes b n a m =
+    turned-so rests flow story asked (spoiled id) counts between after start turn old told printed new At After records keeps
+    (λ told other e. whole told id refl) s t goes b n a
+has-turned rests flow story asked (Err fault.NoMemory) counts between after start turn old told printed new At After records keeps whole s t goes b n a m =
     absurd (false≢true (m refl))
 
 -- ---- an answer
 
 pub answer-refused : (rests : Bool) (flow : Dataflow) (story : Story) (kept : List ℕ) (h : Result Asked LineRule) (rule : LineRule) (before after : LineCounts)
-    (old new : List ℕ) (At : Story → List ℕ → Type 0) → At story kept → Err rule ≡ allowed story.now.opened (came_in_story flow story) h
-    → after ≡ with_line before → new ≡ old ++ refused_line rule after.lines → HasAnswered rests flow story kept h before after old new At
-answer-refused rests flow story kept h rule before after old new At at e counted written = record {
+    (old new : List ℕ) (At : Story → List ℕ → Type 0) (records : Option Records) → At story kept → Err rule ≡ allowed story.now.opened (came_in_story flow story) h
+    → after ≡ with_line before → new ≡ old ++ refused_line rule after.lines → HasAnswered rests flow story kept h before after old new At records
+answer-refused rests flow story kept h rule before after old new At records at e counted written = record {
   answer = refused rule;
   next = story;
   answers = subst (λ a. IsAnswerTo rests flow story a (refused rule) story) e (refl, refl);
   written = written ∙ ap (λ (c : LineCounts). old ++ refused_line rule c.lines) counted;
   counted = counted;
   at = at;
+  unharmed = λ told. tt;
 }
 
 pub answer-turned : (rests : Bool) (flow : Dataflow) (story : Story) (kept : List ℕ) (h : Result Asked LineRule) (asked : Asked) (before between after : LineCounts)
-    (old new : List ℕ) (After : Story → List ℕ → Type 0) → Ok asked ≡ allowed story.now.opened (came_in_story flow story) h → between ≡ with_line before
-    → HasTurned rests flow story asked between after old new After → HasAnswered rests flow story kept h before after old new After
-answer-turned rests flow story kept h asked before between after old new After e counted has = record {
+    (old new : List ℕ) (After : Story → List ℕ → Type 0) (records : Option Records) → Ok asked ≡ allowed story.now.opened (came_in_story flow story) h → between ≡ with_line before
+    → HasTurned rests flow story asked between after old new After records
+    → HasAnswered rests flow story kept h before after old new After records
+answer-turned rests flow story kept h asked before between after old new After records e counted has = record {
   answer = turned has.turn;
   next = has.next;
   answers = subst (λ a. IsAnswerTo rests flow story a (turned has.turn) has.next) e (has.turn, refl, has.turns);
   written = has.written;
   counted = has.counted ∙ ap (counts_turned has.turn) counted;
   at = has.at;
+  unharmed = has.unharmed;
 }
 
 -- what is allowed is what was heard

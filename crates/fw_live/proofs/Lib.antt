@@ -2,7 +2,9 @@ pub mod ReadingLaws
 pub mod StoryTextLaws
 pub mod TakingLaws
 pub mod LifeTextLaws
+pub mod FaultsLaws
 pub mod AnsweredLaws
 pub mod ServingLaws
 pub mod CommandLaws
 pub mod StreamLaws
+pub mod ShowLaws

@@ -16,10 +16,10 @@ use Rattle.fw_run.specs.Printed.{outcomes_text, done_line}
 use Rattle.fw_session.specs.Session.{GoesOnBy}
 use Rattle.fw_session.specs.Story.{Story, after_step, opening}
 use Rattle.fw_live.specs.declared.rule.LineRule.{LineRule}
-use Rattle.fw_live.specs.Answers.{Answer, Turn, refused, turned, IsAnswerTo, after_change, asks, rest_item}
-use Rattle.fw_live.specs.Asked.{Asked, Change, LineIn, none, feeds, closes}
+use Rattle.fw_live.specs.Answers.{Answer, Turn, refused, turned, IsAnswerTo, after_change, asks, rest_item, rests_behind, IsFaultless}
+use Rattle.fw_live.specs.Asked.{Asked, Change, LineIn, none, feeds, closes, shows}
 use Rattle.fw_live.specs.Life.{AreAnswers}
-use Rattle.fw_live.specs.StoryText.{IsFaultless, LivesPrintAsRuns, effects_in}
+use Rattle.fw_live.specs.StoryText.{LivesPrintAsRuns, effects_in}
 use Rattle.fw_live.specs.Taken.{Ending, all, failed, spoiled, EndsItem, EndsMaybe, EndsBoth, TakesFirsts}
 use Rattle.fw_live.proofs.StoryTextLaws.{stories_print, text-of-effects}
 use Rattle.fw_live.proofs.TakingLaws.{outcomes-append}
@@ -94,6 +94,7 @@ change-shows : (flow : Dataflow) (change : Change) (story : Story) → shown flo
 change-shows flow none story = refl
 change-shows flow (feeds s recs) story = refl
 change-shows flow (closes s) story = refl
+change-shows flow shows story = refl
 
 effects-one : (rests : Bool) (flow : Dataflow) (story : Story) (heard : Result Asked LineRule) (answer : Answer) (next : Story)
     → IsAnswerTo rests flow story heard answer next → IsFaultless answer → ShowsMore flow story (effects_in flow (answer ∷ [])) next
@@ -103,7 +104,7 @@ effects-one rests flow story (Ok asked) answer next a n =
     let turn = a.0 in
     subst (λ x. ShowsMore flow story (effects_in flow (x ∷ [])) next) (sym a.1)
     (subst (λ text. ShowsMore flow story text next) (sym (append-nil (outcomes_text flow turn.outcomes)))
-    (shows-pair flow (after_change asked.change story) asked.item (rest_item rests) turn.ending turn.outcomes next (subst IsFaultless a.1 n) a.2.ends
+    (shows-pair flow (after_change asked.change story) asked.item (rest_item (rests_behind rests asked.change)) turn.ending turn.outcomes next (subst IsFaultless a.1 n) a.2.ends
     ∙ ap (λ text. text ++ outcomes_text flow turn.outcomes) (change-shows flow asked.change story)))
 
 effects-on : (flow : Dataflow) (answer : Answer) (answers : List Answer) → effects_in flow (answer ∷ []) ++ effects_in flow answers ≡ effects_in flow (answer ∷ answers)

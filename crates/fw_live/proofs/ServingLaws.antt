@@ -1,28 +1,33 @@
 -- Lines are answered, one after the other.
-use Rattle.std.proofs.Common.{◌≡◌, inl, inr, ℕ, Bool, List, [], ◌∷◌, ◌++◌, ◌+◌, Option, Some, None, option_map, Result, Ok, Err, refl, sym, ap, subst, ◌∙◌, arith}
-use Rattle.std.proofs.lemmas.List.{append-nil, append_assoc}
-use Rattle.std.specs.Prelude.{IfErr, IsSome}
+use Rattle.std.proofs.Common.{◌≡◌, ◌⊎◌, inl, inr, ℕ, ◌≤◌, Bool, List, [], ◌∷◌, ◌++◌, ◌+◌, length, Option, Some, None, option_map, Result, Ok, Err, refl, sym, ap, subst, ◌∙◌, arith}
+use Rattle.std.proofs.lemmas.List.{append-nil, append_assoc, length-append}
+use Rattle.std.specs.Prelude.{IfErr, IfOk, IfSome, IsErrOf, IsSome, OnOk}
 use Rattle.fw_outside.specs.declared.fault.OutFault.{OutFault}
 use Rattle.fw_outside.specs.declared.fault.OutFault.TheVariants.{Failed}
 use Rattle.fw_outside.specs.declared.fault.OutFault.TheVariants as out
-use Rattle.fw_outside.specs.Outside.{SinkView, TakesPrefix}
+use Rattle.fw_outside.specs.Outside.{SinkView, TakesPrefix, one_more}
 use Rattle.fw_flow.specs.Dataflow.{Dataflow}
 use Rattle.fw_keep.specs.Stored.{Records}
-use Rattle.fw_session.specs.Story.{Story}
+use Rattle.fw_session.specs.Story.{Story, IsStory}
 use Rattle.fw_command.specs.Writing.{IsCutOff, IsWritten}
 use Rattle.fw_command.proofs.WritingLaws.{takes_first, written_more, written_nothing}
+use Rattle.fw_run.specs.Call.{CountsWrites}
 use Rattle.fw_run.proofs.TakenLaws.{taken_more, taken_part}
 use Rattle.fw_live.specs.declared.counts.LineCounts.{LineCounts}
 use Rattle.fw_live.specs.declared.fault.ServeFault.{ServeFault}
 use Rattle.fw_live.specs.declared.fault.ServeFault.TheVariants.{Read, Write, Store, NoMemory}
+use Rattle.fw_run.specs.declared.status.Status.TheVariants.{Done}
 use Rattle.fw_live.specs.declared.rule.LineRule.{LineRule}
 use Rattle.fw_live.specs.Answered.{HasAnswered}
 use Rattle.fw_live.specs.Answers.{Answer, answer_text, saturated, counts_after, lines_kept}
 use Rattle.fw_live.specs.Asked.{Asked, LineIn, asked_for}
+use Rattle.fw_live.specs.Call.{stopped_status}
+use Rattle.fw_live.specs.Faults.{TellsFaults}
 use Rattle.fw_live.specs.Given.{with_line_given}
 use Rattle.fw_live.specs.Life.{AreAnswers, answers_text, counts_behind, kept_behind}
 use Rattle.fw_live.specs.Relies.{IsAskedReliedOn, IsLineReliedOn}
-use Rattle.fw_live.specs.Serving.{AreLinesReliedOn, GivesAtMostOne, HasAnsweredAll, HasServed, IsCutBy, IsPutBefore, Serves, ServesPart, LivePoint}
+use Rattle.fw_live.specs.Serving.{AreLinesReliedOn, CountsLines, GivesAtMostOne, GivesMany, HasAnsweredAll, HasServed, IsCutBy, IsPutBefore, Serves, ServesPart, LivePoint, line_faults_after}
+use Rattle.fw_live.proofs.FaultsLaws.{none-told, same≤, told-more, unharmed-more}
 use Rattle.fw_live.proofs.TakingLaws.{relied-maybe}
 
 -- ---- what was relied on before
@@ -94,18 +99,28 @@ pub serves-none : (rests : Bool) (flow : Dataflow) (at : LivePoint) (given : Opt
 serves-none rests flow at given view = record {
   lines = [];
   gave = given-none given;
-  serves = λ story kept there relied. record { answers = []; last = story; are = refl; put = written_nothing view; counted = refl; at = there };
+  faults = none-told at.counts.faults at.counts.faults at.faults at.faults refl refl;
+  serves = λ story kept there relied. record {
+    answers = [];
+    last = story;
+    are = refl;
+    put = written_nothing view;
+    counted = refl;
+    at = there;
+    unharmed = λ told. tt;
+  };
 }
 
 -- one line was answered
 pub serves-one : (rests : Bool) (flow : Dataflow) (before after : LivePoint) (line : LineIn) (given gives : Option (List LineIn)) (text : List ℕ)
-    → gives ≡ with_line_given line given
+    → gives ≡ with_line_given line given → TellsFaults before.counts.faults after.counts.faults before.faults after.faults
     → ((story : Story) (kept : List ℕ) → before.At story kept → IsLineReliedOn after.records flow line
-    → HasAnswered rests flow story kept (asked_for flow line) before.counts after.counts [] text after.At)
+    → HasAnswered rests flow story kept (asked_for flow line) before.counts after.counts [] text after.At after.records)
     → Serves rests flow before after given gives (λ bytes. text ≡ bytes)
-serves-one rests flow before after line given gives text gave answered = record {
+serves-one rests flow before after line given gives text gave faults answered = record {
   lines = line ∷ [];
   gave = gave;
+  faults = faults;
   serves = λ story kept there relied. let a = answered story kept there relied.0 in record {
     answers = a.answer ∷ [];
     last = a.next;
@@ -113,6 +128,7 @@ serves-one rests flow before after line given gives text gave answered = record 
     put = a.written ∙ sym (append-nil (answer_text flow (saturated (before.counts.lines + 1)) a.answer));
     counted = a.counted;
     at = a.at;
+    unharmed = λ told. (a.unharmed told, tt);
   };
 }
 
@@ -120,8 +136,8 @@ serves-one rests flow before after line given gives text gave answered = record 
 two-served : (rests : Bool) (flow : Dataflow) (first second third : LivePoint) (story : Story) (kept : List ℕ) (one other : List LineIn) (text : List ℕ)
     (IsPut All : List ℕ → Type 0) (before : HasServed rests flow first second story kept one IsPut)
     → HasServed rests flow second third before.last (kept_behind flow kept before.answers) other (λ bytes. text ≡ bytes) → ((bytes : List ℕ) → IsPut bytes → All (bytes ++ text))
-    → HasServed rests flow first third story kept (one ++ other) All
-two-served rests flow first second third story kept one other text IsPut All a b join = record {
+    → (IsSome third.records → IsSome second.records) → HasServed rests flow first third story kept (one ++ other) All
+two-served rests flow first second third story kept one other text IsPut All a b join told = record {
   answers = a.answers ++ b.answers;
   last = b.last;
   are = answers-more rests flow story one other a.answers b.answers a.last b.last a.are b.are;
@@ -131,6 +147,7 @@ two-served rests flow first second third story kept one other text IsPut All a b
       (join (answers_text flow first.counts a.answers) a.put);
   counted = b.counted ∙ ap (counts_behind b.answers) a.counted ∙ sym (counts-more a.answers b.answers first.counts);
   at = subst (third.At b.last) (sym (kept-more flow a.answers b.answers kept)) b.at;
+  unharmed = λ tells. unharmed-more a.answers b.answers (a.unharmed (told tells)) (b.unharmed tells);
 }
 
 both-served : (rests : Bool) (flow : Dataflow) (first second third : LivePoint) (given gives more : Option (List LineIn)) (text : List ℕ)
@@ -140,10 +157,11 @@ both-served : (rests : Bool) (flow : Dataflow) (first second third : LivePoint) 
 both-served rests flow first second third given gives more text IsPut All one two join told = record {
   lines = one.lines ++ two.lines;
   gave = given-more one.lines two.lines given gives more one.gave two.gave;
+  faults = told-more first.counts.faults second.counts.faults third.counts.faults first.faults second.faults third.faults one.faults two.faults;
   serves = λ story kept there relied.
       let a = one.serves story kept there (relied-lines second.records third.records flow one.lines told (relied-first third.records flow one.lines two.lines relied)) in
       two-served rests flow first second third story kept one.lines two.lines text IsPut All a
-      (two.serves a.last (kept_behind flow kept a.answers) a.at (relied-second third.records flow one.lines two.lines relied)) join;
+      (two.serves a.last (kept_behind flow kept a.answers) a.at (relied-second third.records flow one.lines two.lines relied)) join told;
 }
 
 -- the same of a session whose flow and whose manner stayed
@@ -193,24 +211,37 @@ put-before Write text before after n w = absurd (n refl)
 put-before Store text before after n w = w
 put-before NoMemory text before after n w = inl w
 
-answered-all : (rests : Bool) (flow : Dataflow) (before after : LivePoint) (story : Story) (kept : List ℕ) (lines : List LineIn)
+answered-all : (rests : Bool) (flow : Dataflow) (before after : LivePoint) (records : Option Records) (story : Story) (kept : List ℕ) (lines : List LineIn)
     (IsPut All : List ℕ → Type 0) → HasServed rests flow before after story kept lines IsPut → ((text : List ℕ) → IsPut text → All text)
-    → HasAnsweredAll rests flow before.counts story lines All
-answered-all rests flow before after story kept lines IsPut All s put =
-    record { answers = s.answers; last = s.last; are = s.are; put = put (answers_text flow before.counts s.answers) s.put }
+    → ((st : Story) (k : List ℕ) → after.At st k → IsStory flow st) → (IsSome records → IsSome after.records)
+    → HasAnsweredAll rests flow before.counts after.counts records story lines All
+answered-all rests flow before after records story kept lines IsPut All s put there told = record {
+  answers = s.answers;
+  last = s.last;
+  are = s.are;
+  of_story = there s.last (kept_behind flow kept s.answers) s.at;
+  put = put (answers_text flow before.counts s.answers) s.put;
+  counted = s.counted;
+  unharmed = λ tells. s.unharmed (told tells);
+}
 
 -- no answer was begun: the source gave one line more at most
-pub part-before : (rests : Bool) (flow : Dataflow) (first second : LivePoint) (records : Option Records) (given gives more : Option (List LineIn))
+pub part-before : (rests : Bool) (flow : Dataflow) (first second : LivePoint) (records : Option Records) (faults : ℕ) (given gives more : Option (List LineIn))
     (fault : ServeFault) (before after : SinkView) → Serves rests flow first second given gives (λ bytes. IsWritten bytes before after)
-    → GivesAtMostOne gives more → (fault ≡ Write → ⊥) → (IsSome records → IsSome second.records)
-    → ServesPart rests flow first records given more (IsPutBefore fault before after)
-part-before rests flow first second records given gives more fault before after so next safe told = record {
+    → GivesAtMostOne gives more → (fault ≡ Write → ⊥) → (IsSome records → IsSome second.records) → second.faults ≤ faults
+    → ((st : Story) (k : List ℕ) → second.At st k → IsStory flow st)
+    → ServesPart rests flow first records faults given more (IsPutBefore fault before after)
+part-before rests flow first second records faults given gives more fault before after so next safe told few there = record {
   lines = so.lines;
   unanswered = next.lines;
   one = next.one;
   gave = given-more so.lines next.lines given gives more so.gave next.gave;
-  serves = λ story kept there relied. answered-all rests flow first second story kept so.lines (λ bytes. IsWritten bytes before after) (IsPutBefore fault before after)
-      (so.serves story kept there (relied-lines second.records records flow so.lines told relied)) (λ text put. put-before fault text before after safe put);
+  counts = second.counts;
+  failed = second.faults;
+  told = so.faults;
+  within = few;
+  serves = λ story kept at relied. answered-all rests flow first second records story kept so.lines (λ bytes. IsWritten bytes before after) (IsPutBefore fault before after)
+      (so.serves story kept at (relied-lines second.records records flow so.lines told relied)) (λ text put. put-before fault text before after safe put) there told;
 }
 
 -- an answer was cut off
@@ -218,8 +249,9 @@ pub part-within : (rests rests2 : Bool) (flow flow2 : Dataflow) (first second th
     (text : List ℕ) (fault : ServeFault) (before between after : SinkView) → rests2 ≡ rests → flow2 ≡ flow
     → Serves rests flow first second given gives (λ bytes. IsWritten bytes before between)
     → Serves rests2 flow2 second third gives more (λ bytes. text ≡ bytes) → IsCutBy fault text between after
-    → (IsSome third.records → IsSome second.records) → ServesPart rests flow first third.records given more (IsPutBefore fault before after)
-part-within rests rests2 flow flow2 first second third given gives more text fault before between after r f one two cut told =
+    → (IsSome third.records → IsSome second.records) → ((st : Story) (k : List ℕ) → third.At st k → IsStory flow st)
+    → ServesPart rests flow first third.records third.faults given more (IsPutBefore fault before after)
+part-within rests rests2 flow flow2 first second third given gives more text fault before between after r f one two cut told there =
     let all = both-served rests flow first second third given gives more text (λ bytes. IsWritten bytes before between) (IsPutBefore fault before after) one
     (same-serves rests rests2 flow flow2 second third gives more (λ bytes. text ≡ bytes) r f two)
     (λ bytes put. cut-by fault bytes text before between after put cut) told in
@@ -228,8 +260,12 @@ part-within rests rests2 flow flow2 first second third given gives more text fau
       unanswered = [];
       one = omega arith;
       gave = all.gave ∙ ap (λ lines. option_map (λ earlier. earlier ++ lines) given) (sym (append-nil all.lines));
-      serves = λ story kept there relied. answered-all rests flow first third story kept all.lines (IsPutBefore fault before after) (IsPutBefore fault before after)
-          (all.serves story kept there relied) (λ text put. put);
+      counts = third.counts;
+      failed = third.faults;
+      told = all.faults;
+      within = same≤ third.faults third.faults refl;
+      serves = λ story kept at relied. answered-all rests flow first third third.records story kept all.lines (IsPutBefore fault before after) (IsPutBefore fault before after)
+          (all.serves story kept at relied) (λ text put. put) there (λ tells. tells);
     }
 
 -- no line was given
@@ -243,3 +279,92 @@ gives-one line given gives e = record { lines = line ∷ []; one = omega arith; 
 pub if-err : {T E : Type 0} (r : Result T E) (P : Type 0) → P → IfErr r (λ _. P)
 if-err (Ok x) P p = tt
 if-err (Err e) P p = p
+
+pub if-ok-some : {T E : Type 0} (r : Result (Option T) E) (P : Type 0) → P → IfOk r (λ x. IfSome x (λ _. P))
+if-ok-some (Ok None) P p = tt
+if-ok-some (Ok (Some x)) P p = p
+if-ok-some (Err e) P p = tt
+
+-- no line, and one more
+pub many-none : (given : Option (List LineIn)) → GivesMany 0 given given
+many-none given = record { lines = []; many = refl; gave = given-none given }
+
+pub many-one : (line : LineIn) (given gives : Option (List LineIn)) → gives ≡ with_line_given line given → GivesMany 1 given gives
+many-one line given gives e = record { lines = line ∷ []; many = refl; gave = e }
+
+pub many-more : (count : ℕ) (given gives more : Option (List LineIn)) → GivesMany count given gives → GivesMany 1 gives more
+    → GivesMany (count + 1) given more
+many-more count given gives more a b = record {
+  lines = a.lines ++ b.lines;
+  many = length-append a.lines b.lines ∙ ap (λ n. n + length b.lines) a.many ∙ ap (λ n. count + n) b.many;
+  gave = given-more a.lines b.lines given gives more a.gave b.gave;
+}
+
+-- ---- how often the output failed
+
+-- it did not, in what was answered so far
+pub record IsCalm (before after : SinkView) : Type 0 where
+  pub refusals : after.refusals ≡ before.refusals
+  pub faults : after.faults ≡ before.faults
+
+pub calm-more : (text : List ℕ) (before between after : SinkView) → IsCalm before between → IsWritten text between after → IsCalm before after
+calm-more text before between after c w = record { refusals = w.none_refused ∙ c.refusals; faults = w.none_failed ∙ c.faults }
+
+pub counts-calm : (before after : SinkView) → IsCalm before after → CountsWrites Done before after
+counts-calm before after c = record { faults = c.faults; refusals = λ _. c.refusals; no_memory = λ _. inl c.refusals }
+
+pub counts-stopped : (fault : ServeFault) (before after : SinkView) → (fault ≡ Write → ⊥) → IsCalm before after
+    → CountsWrites (stopped_status fault) before after
+counts-stopped Read before after n c = record { faults = c.faults; refusals = λ _. c.refusals; no_memory = λ _. inl c.refusals }
+counts-stopped Write before after n c = absurd (n refl)
+counts-stopped Store before after n c = record { faults = c.faults; refusals = λ _. c.refusals; no_memory = λ _. inl c.refusals }
+counts-stopped NoMemory before after n c = record { faults = c.faults; refusals = λ _. c.refusals; no_memory = λ _. inl c.refusals }
+
+pub counts-cut : (fault : ServeFault) (text : List ℕ) (before between after : SinkView) → IsCalm before between → IsCutBy fault text between after
+    → CountsWrites (stopped_status fault) before after
+counts-cut Read text before between after c cut = absurd cut
+counts-cut Write text before between after c cut = record {
+  faults = cut.faults ∙ ap one_more c.faults;
+  refusals = λ _. cut.refusals ∙ ap one_more c.refusals;
+  no_memory = λ e. absurd cc;
+}
+counts-cut Store text before between after c cut = absurd cut
+counts-cut NoMemory text before between after c cut = record {
+  faults = cut.faults ∙ c.faults;
+  refusals = λ n. absurd (n refl);
+  no_memory = λ _. refused cut.refusals;
+}
+  where
+    refused : (after.refusals ≡ between.refusals) ⊎ (after.refusals ≡ one_more between.refusals)
+        → (after.refusals ≡ before.refusals) ⊎ (after.refusals ≡ one_more before.refusals)
+    refused (inl e) = inl (e ∙ c.refusals)
+    refused (inr e) = inr (e ∙ ap one_more c.refusals)
+
+-- ---- how often the source of lines failed
+
+pub lines-failed : (fault : ServeFault) (given gives : Option (List LineIn)) (before between after : ℕ) → between ≡ before
+    → after ≡ line_faults_after fault between → CountsLines fault given gives before after
+lines-failed Read given gives before between after e f = inl (f ∙ ap one_more e)
+lines-failed Write given gives before between after e f = f ∙ e
+lines-failed Store given gives before between after e f = f ∙ e
+lines-failed NoMemory given gives before between after e f = f ∙ e
+
+pub lines-kept : (fault : ServeFault) (given gives : Option (List LineIn)) (before after : ℕ) → (fault ≡ Read → ⊥) → after ≡ before
+    → CountsLines fault given gives before after
+lines-kept Read given gives before after n e = absurd (n refl)
+lines-kept Write given gives before after n e = e
+lines-kept Store given gives before after n e = e
+lines-kept NoMemory given gives before after n e = e
+
+-- where no more was read
+pub on-ok : {T E : Type 0} (r : Result T E) (P : Type 0) → P → OnOk r P
+on-ok (Ok x) P p = p
+on-ok (Err e) P p = tt
+
+pub no-line-failed : {T : Type 0} (r : Result T ServeFault) (before after : ℕ) → (IsErrOf r Read → ⊥) → after ≡ before
+    → IfErr r (λ fault. after ≡ line_faults_after fault before)
+no-line-failed (Ok x) before after n e = tt
+no-line-failed (Err Read) before after n e = absurd (n refl)
+no-line-failed (Err Write) before after n e = e
+no-line-failed (Err Store) before after n e = e
+no-line-failed (Err NoMemory) before after n e = e

@@ -2,7 +2,7 @@
 use Rattle.std.proofs.Common.{◌≡◌, ℕ, true, false, ◌+◌, ◌<◌, List, [], ◌∷◌, ◌++◌, length, map, Option, Some, None, Result, Ok, Err, refl, sym, ap, subst, ◌∙◌, inl, inr, arith}
 use Rattle.std.proofs.lemmas.List.{append-nil, append_assoc, length-append}
 use Rattle.std.proofs.lemmas.Bool.{false≢true}
-use Rattle.std.specs.Prelude.{IsSome}
+use Rattle.std.specs.Prelude.{IsErrOf, IsSome}
 use Rattle.fw_flow.specs.declared.step.Step.{Step}
 use Rattle.fw_flow.specs.declared.step.Step.TheVariants.{Recover, Collect}
 use Rattle.fw_flow.specs.Dataflow.{System, Dataflow}
@@ -101,6 +101,13 @@ step-fails flow step fault.StoreFault after Before After story printed goes befo
 step-fails flow step (fault.Damaged id) after Before After story printed goes before =
     prints-none flow (EndsItem flow story (One step) (spoiled id)) printed After story (refl, refl) (goes.unharmed id story before refl).1
 step-fails flow step fault.NoMemory after Before After story printed goes before = tt
+
+-- a record was damaged
+pub step-harm : (flow : Dataflow) (step : Step) (f : EngineFault) (after : Option Records) (Before After : Story → Type 0) (story : Story) (id : ℕ)
+    → StepGoesOn flow step (Err f) after Before After → Before story → IsErrOf {T = Unit {0}} (Err f) (fault.Damaged id) → after ≡ None
+step-harm flow step fault.StoreFault after Before After story id goes before e = absurd cc
+step-harm flow step (fault.Damaged other) after Before After story id goes before e = (goes.unharmed other story before refl).0
+step-harm flow step fault.NoMemory after Before After story id goes before e = absurd cc
 
 -- ---- steps that are taken by themselves
 

@@ -1,5 +1,5 @@
 -- What a session answers to a line.
-use Rattle.std.specs.Prelude.{◌≡◌, ℕ, ◌+◌, ◌-◌, ◌^◌, min, Bool, true, false, List, [], ◌++◌, length, Option, Some, None, Result, Ok, Err, codes}
+use Rattle.std.specs.Prelude.{◌≡◌, ◌≢◌, ℕ, ◌+◌, ◌-◌, ◌^◌, min, Bool, true, false, List, [], ◌++◌, length, Option, Some, None, Result, Ok, Err, codes}
 use Rattle.std.specs.Fmt.{decimal}
 use Rattle.std.specs.Option.{option_or}
 use Rattle.fw_lines.specs.Refusal.{code_text}
@@ -14,7 +14,8 @@ use Rattle.fw_session.specs.Story.{Story, after_feed, after_close}
 use Rattle.fw_live.specs.declared.rule.LineRule.{LineRule}
 use Rattle.fw_live.specs.declared.rule.LineRule.TheVariants.{OfText, Length, Closed}
 use Rattle.fw_live.specs.declared.counts.LineCounts.{LineCounts}
-use Rattle.fw_live.specs.Asked.{Asked, Change, none, feeds, closes, LineIn, asked_for, allowed}
+use Rattle.fw_live.specs.Asked.{Asked, Change, none, feeds, closes, shows, LineIn, asked_for, allowed}
+use Rattle.fw_live.specs.ShowText.{show_text}
 use Rattle.fw_live.specs.Taken.{Ending, all, failed, spoiled, EndsBoth}
 use Rattle.fw_living.specs.Life.{came_in_story}
 
@@ -40,11 +41,12 @@ fed_line flow s epoch = codes "fed " ++ ((node_at flow s).name ++ (codes " " ++ 
 abbrev pub closed_line : Dataflow → ℕ → ℕ → List ℕ
 closed_line flow s epoch = codes "closed " ++ ((node_at flow s).name ++ (codes " " ++ (decimal epoch ++ codes "\n")))
 
--- the line of a change, by how many batches came
-abbrev pub change_text : Dataflow → (ℕ → ℕ) → Change → List ℕ
-change_text flow came none = []
-change_text flow came (feeds s recs) = fed_line flow s (came s)
-change_text flow came (closes s) = closed_line flow s (came s)
+-- the lines of a change in a story
+abbrev pub change_text : Dataflow → Story → Change → List ℕ
+change_text flow story none = []
+change_text flow story (feeds s recs) = fed_line flow s (came_in_story flow story s)
+change_text flow story (closes s) = closed_line flow s (came_in_story flow story s)
+change_text flow story shows = show_text flow story
 
 -- the code of a rule
 abbrev pub rule_text : LineRule → List ℕ
@@ -110,6 +112,18 @@ abbrev pub counts_after : Answer → LineCounts → LineCounts
 counts_after (refused rule) counts = with_line counts
 counts_after (turned turn) counts = counts_turned turn (with_line counts)
 
+-- ---- where nothing went wrong
+
+-- the store did not fail in a line that was answered so
+abbrev pub IsFaultless : Answer → Type 0
+IsFaultless (refused rule) = Unit {0}
+IsFaultless (turned turn) = turn.ending ≢ failed
+
+-- no record was damaged in a line that was answered so
+abbrev pub IsUnharmed : Answer → Type 0
+IsUnharmed (refused rule) = Unit {0}
+IsUnharmed (turned turn) = (id : ℕ) → turn.ending ≢ spoiled id
+
 -- ---- what is kept
 
 -- the lines that are kept behind an answer: those of what the steps of the line showed; where it is refused, those that were kept before
@@ -128,16 +142,24 @@ abbrev pub after_change : Change → Story → Story
 after_change none story = story
 after_change (feeds s recs) story = after_feed s recs story
 after_change (closes s) story = after_close s story
+after_change shows story = story
 
 -- the steps to rest behind a line, where lines are to end so
 abbrev pub rest_item : Bool → Option Item
 rest_item false = None
 rest_item true = Some (Auto step_limit)
 
+-- whether steps to rest follow a line that asks for this change: a look changes nothing
+abbrev pub rests_behind : Bool → Change → Bool
+rests_behind rests none = rests
+rests_behind rests (feeds s recs) = rests
+rests_behind rests (closes s) = rests
+rests_behind rests shows = false
+
 -- From a story what a line asks for came to this, and leads to the next one.
 pub record Turns (rests : Bool) (flow : Dataflow) (story : Story) (asked : Asked) (turn : Turn) (next : Story) : Type 0 where
-  pub told : turn.told ≡ change_text flow (came_in_story flow story) asked.change
-  pub ends : EndsBoth flow (after_change asked.change story) asked.item (rest_item rests) turn.ending turn.outcomes next
+  pub told : turn.told ≡ change_text flow story asked.change
+  pub ends : EndsBoth flow (after_change asked.change story) asked.item (rest_item (rests_behind rests asked.change)) turn.ending turn.outcomes next
 
 -- by what a line asks for: it is refused, and the story stays; or it comes to this
 abbrev pub IsAnswerTo : Bool → Dataflow → Story → Result Asked LineRule → Answer → Story → Type 0

@@ -16,11 +16,12 @@ use Rattle.fw_schedule.specs.Grammar.{item_of, within_limit}
 use Rattle.fw_live.specs.declared.rule.LineRule.{LineRule}
 use Rattle.fw_live.specs.declared.rule.LineRule.TheVariants.{OfText, Length, Closed}
 
--- what a line does to a source before it takes steps: nothing; it feeds one this batch; it closes one
+-- what a line does before it takes steps: nothing; it feeds a source this batch; it closes one; or it shows where the session stands
 pub data Change : Type 0 where
   none : Change
   feeds : ℕ → List Rec → Change
   closes : ℕ → Change
+  shows : Change
 
 -- what a line asks for: a change, and then the steps of an item, if there is one
 pub record Asked : Type 0 where
@@ -50,6 +51,11 @@ closing_by sources [] = Err (OfText S1)
 closing_by sources (name ∷ []) = if is_name name then closing (node_named sources name) else Err (OfText S1)
 closing_by sources (name ∷ word ∷ words) = Err (OfText S1)
 
+-- what `show` and these words ask for; S1, unless there are none
+abbrev pub showing_by : List (List ℕ) → Result Asked LineRule
+showing_by [] = of_change shows
+showing_by (word ∷ words) = Err (OfText S1)
+
 -- the steps of a line of a schedule, or the rule of schedules that is broken
 abbrev pub stepping : Result Item Code → Result Asked LineRule
 stepping (Ok item) = Ok (record { change = none; item = Some item })
@@ -64,13 +70,14 @@ abbrev pub stepping_by : Dataflow → List (List ℕ) → Result Asked LineRule
 stepping_by flow [] = of_change none
 stepping_by flow (verb ∷ words) = stepping (within_limit 0 (item_of flow (verb ∷ words)))
 
--- What words ask for, or the first rule that they break by themselves: those of inputs where `batch` is the first, those of `close`, and
--- else those of a schedule, each of this line alone. No word asks for nothing.
+-- What words ask for, or the first rule that they break by themselves: those of inputs where `batch` is the first, those of `close` and of
+-- `show`, and else those of a schedule, each of this line alone. No word asks for nothing.
 abbrev pub asked_by : Dataflow → List (List ℕ) → Result Asked LineRule
 asked_by flow [] = of_change none
 asked_by flow (verb ∷ words) =
     if bytes_eq verb (codes "batch") then feeding_by (sources_of flow) (verb ∷ words)
-    else (if bytes_eq verb (codes "close") then closing_by (sources_of flow) words else stepping_by flow (verb ∷ words))
+    else (if bytes_eq verb (codes "close") then closing_by (sources_of flow) words
+    else (if bytes_eq verb (codes "show") then showing_by words else stepping_by flow (verb ∷ words)))
 
 -- ---- by its length
 
@@ -100,6 +107,7 @@ asked_for flow (Some bytes) = asked_in flow (first_line bytes)
 -- fewer than 2^20 - 1
 abbrev pub change_fault : (ℕ → Bool) → (ℕ → ℕ) → Change → Option LineRule
 change_fault opened came none = None
+change_fault opened came shows = None
 change_fault opened came (feeds s recs) = if opened s then (if nat_le (2 ^ 20 - 1) (came s) then Some (OfText I5) else None) else Some Closed
 change_fault opened came (closes s) = if opened s then None else Some Closed
 

@@ -1,5 +1,6 @@
 -- What a call of `falkirk_live` promises.
-use Rattle.std.specs.Prelude.{◌≡◌, ◌⊎◌, ◌↔◌, ◌≤◌, ◌==◌, ℕ, Bool, true, if◌then◌else◌, List, ◌++◌, length, Option, Some, None, option_map}
+use Rattle.std.specs.Prelude.{◌≡◌, ◌≢◌, ◌⊎◌, ◌↔◌, ◌≤◌, ◌==◌, ℕ, Bool, true, if◌then◌else◌, List, [], ◌++◌, length, Option, Some, None, IsSome, option_map}
+use Rattle.std.specs.List.{AllByRecursion}
 use Rattle.fw_outside.specs.declared.fault.OutFault.TheVariants as out
 use Rattle.fw_outside.specs.Outside.{StoreView, SinkView, one_more}
 use Rattle.fw_lines.specs.declared.refusal.Refusal.{Refusal}
@@ -16,10 +17,10 @@ use Rattle.fw_live.specs.declared.counts.LineCounts.{LineCounts}
 use Rattle.fw_live.specs.declared.fault.ServeFault.{ServeFault}
 use Rattle.fw_live.specs.declared.fault.ServeFault.TheVariants.{Read, Write, Store}
 use Rattle.fw_live.specs.declared.fault.ServeFault.TheVariants as serve
-use Rattle.fw_live.specs.Answers.{Answer}
+use Rattle.fw_live.specs.Answers.{Answer, IsFaultless, IsUnharmed}
 use Rattle.fw_live.specs.Asked.{LineIn}
 use Rattle.fw_live.specs.Life.{AreAnswers, answers_text, counts_behind, counts_line, no_counts}
-use Rattle.fw_live.specs.Serving.{AreLinesReliedOn}
+use Rattle.fw_live.specs.Serving.{AreLinesReliedOn, LinesFailed}
 use Rattle.fw_live.specs.Words.{LiveCommand}
 
 -- ---- how it ends
@@ -47,6 +48,18 @@ EndsBefore WriteFault = Unit {0}
 EndsBefore NoMemory = Unit {0}
 EndsBefore status = ⊥
 
+-- one that ends so may have done nothing: its folder failed, or memory was refused
+abbrev pub EndsQuiet : Status → Type 0
+EndsQuiet ReadFault = Unit {0}
+EndsQuiet NoMemory = Unit {0}
+EndsQuiet status = ⊥
+
+-- one that ends so may have ended in its last line: the output failed, or memory was refused
+abbrev pub EndsInLastLine : Status → Type 0
+EndsInLastLine WriteFault = Unit {0}
+EndsInLastLine NoMemory = Unit {0}
+EndsInLastLine status = ⊥
+
 -- one that ends so did not begin: its words are bad, or the text of its flow is refused
 abbrev pub EndsUnbegun : Status → Type 0
 EndsUnbegun BadWords = Unit {0}
@@ -66,21 +79,42 @@ stopped_status Write = WriteFault
 stopped_status Store = StoreFault
 stopped_status serve.NoMemory = NoMemory
 
+-- ---- stores of a kind
+
+-- each tells its records, whatever comes
+abbrev pub TellAlways : {K : Type 0} → (K → StoreView) → Type 0
+TellAlways {K} view = (store : K) → IsSome (view store).records
+
+-- none ever fails
+abbrev pub NeverFail : {K : Type 0} → (K → StoreView) → Type 0
+NeverFail {K} view = (store : K) → (view store).faults ≡ 0
+
+-- Over stores of a kind the answers tell that nothing went wrong: none is `damaged ID`, where each tells its records, and none is `fault`, where
+-- none ever fails.
+pub record GoWellOver {K : Type 0} (view : K → StoreView) (answers : List Answer) : Type 0 where
+  pub unharmed : TellAlways view → AllByRecursion IsUnharmed answers
+  pub faultless : NeverFail view → AllByRecursion IsFaultless answers
+
 -- ---- what is printed
 
--- The text is that of the answers to these lines, from the opening of a session on.
-pub record IsAnswersText (rests : Bool) (flow : Dataflow) (lines : List LineIn) (printed : List ℕ) : Type 0 where
-  pub answers : List Answer
-  pub last : Story
-  pub are : AreAnswers rests flow (opening flow) lines answers last
-  pub text : printed ≡ answers_text flow no_counts answers
-
--- The text is that, and behind it the line of what was counted, which the status tells too.
-pub record IsLiveText (rests : Bool) (flow : Dataflow) (lines : List LineIn) (status : Status) (printed : List ℕ) : Type 0 where
+-- The text is that of the answers to these lines, from the opening of a session on, up to a story too.
+pub record IsAnswersText {K : Type 0} (view : K → StoreView) (rests : Bool) (flow : Dataflow) (lines : List LineIn) (printed : List ℕ)
+    : Type 0 where
   pub answers : List Answer
   pub last : Story
   pub are : AreAnswers rests flow (opening flow) lines answers last
   pub of_story : IsStory flow last
+  pub go_well : GoWellOver view answers
+  pub text : printed ≡ answers_text flow no_counts answers
+
+-- The text is that, and behind it the line of what was counted, which the status tells too.
+pub record IsLiveText {K : Type 0} (view : K → StoreView) (rests : Bool) (flow : Dataflow) (lines : List LineIn) (status : Status)
+    (printed : List ℕ) : Type 0 where
+  pub answers : List Answer
+  pub last : Story
+  pub are : AreAnswers rests flow (opening flow) lines answers last
+  pub of_story : IsStory flow last
+  pub go_well : GoWellOver view answers
   pub text : printed ≡ answers_text flow no_counts answers ++ counts_line (counts_behind answers no_counts)
   pub told : status ≡ status_by (counts_behind answers no_counts)
 
@@ -94,7 +128,7 @@ pub record AnswersAll {K : Type 0} (view : K → StoreView) (rests : Bool) (flow
   pub lines : List LineIn
   pub gave : gives ≡ option_map (λ earlier. earlier ++ lines) given
   pub printed : AreReliedOnOver view flow lines
-      → WritesText (IsLiveText rests flow lines status) (λ text. IsWritten text before after)
+      → WritesText (IsLiveText view rests flow lines status) (λ text. IsWritten text before after)
 
 -- how much of it was written where the call ends so before
 abbrev pub IsPutAt : Status → SinkView → SinkView → List ℕ → Type 0
@@ -109,15 +143,20 @@ IsLineCutAt WriteFault line before after = IsCutOff line out.Failed before after
 IsLineCutAt NoMemory line before after = IsCutOff line out.NoMemory before after
 IsLineCutAt status line before after = ⊥
 
+-- What is printed of these lines where the call ends so before: their answers; or, where all that came were answered, the last line too.
+abbrev pub IsPartText : {K : Type 0} → (K → StoreView) → Bool → Dataflow → List LineIn → List LineIn → Bool → Status → List ℕ → Type 0
+IsPartText view rests flow lines unanswered ended status text = IsAnswersText view rests flow lines text
+    ⊎ (EndsInLastLine status × (ended ≡ true) × (unanswered ≡ []) × ((end : Status) × IsLiveText view rests flow lines end text))
+
 -- These lines came in, and perhaps one more; and of what is printed of them this much was written.
-pub record AnswersPart {K : Type 0} (view : K → StoreView) (rests : Bool) (flow : Dataflow) (given gives : Option (List LineIn)) (status : Status)
-    (before after : SinkView) : Type 0 where
+pub record AnswersPart {K : Type 0} (view : K → StoreView) (rests : Bool) (flow : Dataflow) (given gives : Option (List LineIn)) (ended : Bool)
+    (status : Status) (before after : SinkView) : Type 0 where
   pub lines : List LineIn
   pub unanswered : List LineIn
   pub one : length unanswered ≤ 1
   pub gave : gives ≡ option_map (λ earlier. earlier ++ (lines ++ unanswered)) given
   pub printed : AreReliedOnOver view flow lines
-      → WritesText (λ text. IsAnswersText rests flow lines text ⊎ ((end : Status) × IsLiveText rests flow lines end text)) (IsPutAt status before after)
+      → WritesText (IsPartText view rests flow lines unanswered ended status) (IsPutAt status before after)
 
 -- no line came in, and nothing was written
 abbrev pub StaysQuiet : Option (List LineIn) → Option (List LineIn) → SinkView → SinkView → Type 0
@@ -127,8 +166,11 @@ StaysQuiet given gives before after = (gives ≡ given) × (after ≡ before)
 pub record FlowAnswers {K : Type 0} (view : K → StoreView) (rests : Bool) (flow : Dataflow) (given gives : Option (List LineIn)) (ended : Bool)
     (status : Status) (before after : SinkView) : Type 0 where
   pub whole : EndsWhole status → AnswersAll view rests flow given gives status before after × (ended ≡ true)
-  pub part : EndsBefore status → StaysQuiet given gives before after ⊎ AnswersPart view rests flow given gives status before after
+  pub part : EndsBefore status
+      → (EndsQuiet status × StaysQuiet given gives before after) ⊎ AnswersPart view rests flow given gives ended status before after
   pub begun : EndsUnbegun status → ⊥
+  pub unharmed : TellAlways view → (id : ℕ) → status ≢ Damaged id
+  pub faultless : NeverFail view → status ≢ StoreFault
   pub no_root : TellsOfRoot status → ⊥
 
 -- ---- a call
@@ -160,12 +202,25 @@ pub record LiveAnswers {K : Type 0} (view : K → StoreView) (told : Option (Lis
   pub refused : (refusal : Refusal) → status ≡ Refused refusal → HasFlowRefused told command refusal
   -- 6: nothing was done, as the folder failed; or the source of lines failed, and what came before was answered, and the answers written.
   -- 7: the output failed, and first bytes of what is printed were written. 10: at any time; nothing was written, or first bytes, or all.
-  pub part : EndsBefore status → StaysQuiet given gives before after
-      ⊎ HasFlowSo told command (λ rests flow. AnswersPart view rests flow given gives status before after)
+  -- At 6 the last line is not among what is printed.
+  pub part : EndsBefore status → (EndsQuiet status × StaysQuiet given gives before after)
+      ⊎ HasFlowSo told command (λ rests flow. AnswersPart view rests flow given gives ended status before after)
   -- 2, 3: no line came in, and nothing was written.
   pub unbegun : EndsUnbegun status → StaysQuiet given gives before after
+  -- 9: never over stores of which each tells its records. 8: never over stores of which none ever fails.
+  pub unharmed : TellAlways view → (id : ℕ) → status ≢ Damaged id
+  pub faultless : NeverFail view → status ≢ StoreFault
   -- 9 `damaged root` and 11: never.
   pub no_root : TellsOfRoot status → ⊥
+
+-- Over stores of a kind a session's command ends neither with 8 nor with 9, whatever comes in, and no answer is `fault` or `damaged ID`.
+pub record LivesGoWell {K : Type 0} (view : K → StoreView) : Type 0 where
+  pub ends : (told : Option (List ℕ → Option (List ℕ))) (command : Option LiveCommand) (given gives : Option (List LineIn)) (ended : Bool)
+      (status : Status) (before after : SinkView) → LiveAnswers view told command given gives ended status before after
+      → (status ≢ StoreFault) × ((id : ℕ) → status ≢ Damaged id)
+  pub answers : (list : List Answer) → GoWellOver view list → AllByRecursion IsFaultless list × AllByRecursion IsUnharmed list
+  -- each line can be relied on
+  pub relied : (flow : Dataflow) (lines : List LineIn) → AreReliedOnOver view flow lines
 
 -- The folder keeps its texts. It was not asked where the words are no such command, and else once.
 pub record KeepsFlow {F : Type 0} (texts : F → Option (List ℕ → Option (List ℕ))) (fetch_count : F → ℕ) (command : Option LiveCommand)
@@ -173,3 +228,32 @@ pub record KeepsFlow {F : Type 0} (texts : F → Option (List ℕ → Option (Li
   pub texts_stay : texts after ≡ texts before
   pub no_words : command ≡ None → after ≡ before
   pub asked : (live : LiveCommand) → command ≡ Some live → fetch_count after ≡ one_more (fetch_count before)
+
+-- how often the folder failed, and the source of lines
+pub record ReadFaults : Type 0 where
+  pub folder : ℕ
+  pub lines : ℕ
+
+-- The folder failed once, before a line came in and before anything was written.
+pub record FailsByFolder (given gives : Option (List LineIn)) (before after : ReadFaults) (out out2 : SinkView) : Type 0 where
+  pub once : after.folder ≡ one_more before.folder
+  pub lines : after.lines ≡ before.lines
+  pub quiet : StaysQuiet given gives out out2
+
+-- The source of lines failed once, in a session over a flow; or it gave 2^64 - 1 lines, and did not fail.
+pub record FailsByLines (given gives : Option (List LineIn)) (IsBegun : Type 0) (before after : ReadFaults) : Type 0 where
+  pub folder : after.folder ≡ before.folder
+  pub begun : IsBegun
+  pub failed : LinesFailed given gives before.lines after.lines
+
+-- how often the source of lines failed in a session over a flow, where the status tells it, and else
+pub record CountsSession (status : Status) (given gives : Option (List LineIn)) (before after : ℕ) : Type 0 where
+  pub read_fault : status ≡ ReadFault → LinesFailed given gives before after
+  pub no_read_fault : status ≢ ReadFault → after ≡ before
+
+-- How often the call failed to read: where its status tells it, the folder failed, or the source of lines did; and else neither.
+pub record CountsReads (told : Option (List ℕ → Option (List ℕ))) (command : Option LiveCommand) (status : Status)
+    (given gives : Option (List LineIn)) (before after : ReadFaults) (out out2 : SinkView) : Type 0 where
+  pub read_fault : status ≡ ReadFault → FailsByFolder given gives before after out out2
+      ⊎ FailsByLines given gives (HasFlowSo told command (λ rests flow. Unit {0})) before after
+  pub no_read_fault : status ≢ ReadFault → (after.folder ≡ before.folder) × (after.lines ≡ before.lines)

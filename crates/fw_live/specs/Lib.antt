@@ -1,11 +1,14 @@
 pub mod Asked
 pub mod Reading
 pub mod Taken
+pub mod ShowText
+pub mod Aspects
 pub mod Answers
 pub mod Life
 pub mod Relies
 pub mod Answered
 pub mod StoryText
+pub mod Faults
 pub mod Given
 pub mod Serving
 pub mod Words

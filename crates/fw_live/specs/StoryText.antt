@@ -1,5 +1,5 @@
 -- What a session shows, as a text.
-use Rattle.std.specs.Prelude.{◌≢◌, ℕ, Bool, List, [], ◌∷◌, ◌++◌, length, map}
+use Rattle.std.specs.Prelude.{ℕ, Bool, List, [], ◌∷◌, ◌++◌, length, map}
 use Rattle.std.specs.List.{AllByRecursion, flat_map}
 use Rattle.fw_bag.specs.declared.rec.Rec.{Rec}
 use Rattle.fw_flow.specs.Dataflow.{Dataflow}
@@ -10,10 +10,9 @@ use Rattle.fw_feeding.specs.FedRuns.{steps_among}
 use Rattle.fw_session.specs.Story.{Story, IsStory, opening}
 use Rattle.fw_run.specs.Headline.{PrintsRun}
 use Rattle.fw_run.specs.Printed.{done_line, outcomes_text}
-use Rattle.fw_live.specs.Answers.{Answer, refused, turned}
+use Rattle.fw_live.specs.Answers.{Answer, refused, turned, IsFaultless}
 use Rattle.fw_live.specs.Asked.{LineIn}
 use Rattle.fw_live.specs.Life.{AreAnswers}
-use Rattle.fw_live.specs.Taken.{failed}
 
 -- the lines of what the steps of a story showed, and how many they were
 abbrev pub story_text : Dataflow → Story → List ℕ
@@ -32,11 +31,6 @@ abbrev pub effects_in : Dataflow → List Answer → List ℕ
 effects_in flow [] = []
 effects_in flow (refused rule ∷ answers) = effects_in flow answers
 effects_in flow (turned turn ∷ answers) = outcomes_text flow turn.outcomes ++ effects_in flow answers
-
--- the store did not fail in a line that was answered so
-abbrev pub IsFaultless : Answer → Type 0
-IsFaultless (refused rule) = Unit {0}
-IsFaultless (turned turn) = turn.ending ≢ failed
 
 -- the lines of effects among the answers to lines, from the opening of a session on, with the line of the steps that were done behind them,
 -- are what a run prints, whose schedule is these steps, over the batches that came and over all that go on behind them

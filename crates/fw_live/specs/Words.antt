@@ -4,7 +4,7 @@ use Rattle.std.specs.Str.{bytes_eq}
 use Rattle.fw_command.specs.Words.{is_operand}
 use Rattle.fw_live.specs.declared.words.LiveWords.{LiveWords}
 
--- a session's command: the name of the flow's text, and whether each line that is accepted ends with steps to rest
+-- a session's command: the name of the flow's text, and whether each line that is accepted, but `show`, ends with steps to rest
 pub record LiveCommand : Type 0 where
   pub flow : List ℕ
   pub rests : Bool

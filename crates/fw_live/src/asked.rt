@@ -1,5 +1,5 @@
 //! The reader of a line of a session.
-ghost use Rattle.std.specs.Prelude.{◌≡◌, ◌≤◌, not, [], ◌∷◌, length, IfOk};
+ghost use Rattle.std.specs.Prelude.{◌≡◌, ◌≤◌, ℕ, List, not, [], ◌∷◌, length, IfOk};
 ghost use Rattle.std.specs.List.{prefix_len};
 ghost use Rattle.std.specs.Str.{bytes_eq};
 ghost use Rattle.fw_lines.specs.Inputs.{AreAcceptedInputs};
@@ -21,15 +21,17 @@ use std::alloc::{AllocError, Global};
 /// The most bytes of a line.
 pub const LINE_LIMIT: usize = 1_048_576;
 
-/// What a line does to a source before it takes steps.
+/// What a line does before it takes steps.
 #[derive(Drop)]
 pub(crate) enum Change {
     /// Nothing.
     Nothing,
-    /// It feeds one a batch of these recs.
+    /// It feeds a source a batch of these recs.
     Feed(NodeId, Vec<Rec>),
     /// It closes one.
     Close(NodeId),
+    /// It shows where the session stands.
+    Show,
 }
 
 /// What a line asks for: a change, and then the steps of the first of these items, if there is one.
@@ -94,6 +96,8 @@ fn read_words(
                 read_batch(alloc, line, words, sources)
             } else if is_word(line, *verb, b"close") {
                 Ok(read_close(alloc, line, others, sources))
+            } else if is_word(line, *verb, b"show") {
+                Ok(read_show(alloc, others))
             } else {
                 read_item(alloc, line, flow)
             }
@@ -194,6 +198,16 @@ fn read_close(
     match sources.node_spelled(name.of(line)) {
         Some(node) => Ok(change_alone(alloc, Change::Close(NodeId::at(node)))),
         None => Err(LineRule::OfText(Code::S2)),
+    }
+}
+
+// What the words behind `show` ask for, or the rule that they break.
+fn read_show(alloc: Global, words: &[Span]) -> Result<Asked, LineRule>
+    ensures { (line : List ℕ) → heard_in result ≡ spec.showing_by (words_at line words.now) }
+{
+    match words {
+        [] => Ok(change_alone(alloc, Change::Show)),
+        _ => Err(LineRule::OfText(Code::S1)),
     }
 }
 

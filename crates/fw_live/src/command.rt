@@ -3,12 +3,12 @@ ghost use Rattle.std.specs.Prelude.{◌≡◌};
 ghost use Rattle.fw_keep.specs.Stored.{IsEmptyStore};
 ghost use Rattle.fw_command.specs.Words.{words_in};
 ghost use Rattle.fw_command.specs.Writing.{IsWritten, NeverFall};
-ghost use Rattle.fw_run.specs.Call.{TellsNotes};
+ghost use Rattle.fw_run.specs.Call.{CountsWrites, TellsNotes};
 ghost use Rattle.fw_engine.specs.Engine.{flow_of};
 ghost use Rattle.fw_flow.specs.Dataflow.{Dataflow};
 ghost use Rattle.fw_session.specs.Session.{IsAt};
 ghost use Rattle.fw_session.specs.Story.{opening};
-ghost use Rattle.fw_live.specs.Call.{EndsBefore, EndsUnbegun, EndsWhole, FlowAnswers, IsLineCutAt, KeepsFlow, LiveAnswers, status_by, stopped_status, unread_status};
+ghost use Rattle.fw_live.specs.Call.{CountsReads, CountsSession, EndsBefore, EndsUnbegun, EndsWhole, FlowAnswers, IsLineCutAt, KeepsFlow, LiveAnswers, status_by, stopped_status, unread_status};
 ghost use Rattle.fw_live.specs.Life as life;
 ghost use Rattle.fw_live.specs.Life.{no_counts};
 ghost use Rattle.fw_live.specs.Words.{live_of};
@@ -30,8 +30,8 @@ use std::alloc::Global;
 
 /// Runs a session's command: `words` are those after the program's name. `live FLOW` fetches and reads the text of a flow from the folder,
 /// and answers the lines that come in over an empty store, up to their end: each answer is written to `out` before the next line is read.
-/// With `auto` behind the flow each line that is accepted ends with steps to rest. Where that does not end well, one line on `notes` says
-/// why.
+/// With `auto` behind the flow each line that is accepted, but `show`, ends with steps to rest. Where that does not end well, one line on
+/// `notes` says why.
 pub fn falkirk_live<F: Folder, K: Store + Drop, L: LineSource, O: Sink, N: Sink>(
     alloc: Global,
     words: &[&str],
@@ -45,6 +45,11 @@ pub fn falkirk_live<F: Folder, K: Store + Drop, L: LineSource, O: Sink, N: Sink>
     // What is true of the call by its status: a field for each promise.
     ensures answers { LiveAnswers K.view (F.texts folder.old) (live_of (words_in words.now)) (L.given input.old) (L.given input.new)
         (L.ended input.new) result (O.view out.old) (O.view out.new) }
+    // How often what it reads failed, and the output.
+    ensures reads { CountsReads (F.texts folder.old) (live_of (words_in words.now)) result (L.given input.old) (L.given input.new)
+        (record { folder = F.fault_count folder.old; lines = L.fault_count input.old })
+        (record { folder = F.fault_count folder.new; lines = L.fault_count input.new }) (O.view out.old) (O.view out.new) }
+    ensures writes { CountsWrites result (O.view out.old) (O.view out.new) }
     // What was asked of the folder.
     ensures folder { KeepsFlow F.texts F.fetch_count (live_of (words_in words.now)) folder.old folder.new }
     // What the notes took.
@@ -67,6 +72,10 @@ fn run<F: Folder, K: Store + Drop, L: LineSource, O: Sink>(
     requires { IsEmptyStore (K.view store).records }
     ensures answers { LiveAnswers K.view (F.texts folder.old) (live_of (words_in words.now)) (L.given input.old) (L.given input.new)
         (L.ended input.new) result (O.view out.old) (O.view out.new) }
+    ensures reads { CountsReads (F.texts folder.old) (live_of (words_in words.now)) result (L.given input.old) (L.given input.new)
+        (record { folder = F.fault_count folder.old; lines = L.fault_count input.old })
+        (record { folder = F.fault_count folder.new; lines = L.fault_count input.new }) (O.view out.old) (O.view out.new) }
+    ensures writes { CountsWrites result (O.view out.old) (O.view out.new) }
     ensures folder { KeepsFlow F.texts F.fetch_count (live_of (words_in words.now)) folder.old folder.new }
 {
     let Some(words) = parse(words) else {
@@ -99,7 +108,9 @@ fn answer_lines<K: Store + Drop, L: LineSource, O: Sink>(
     out: &mut O,
 ) -> Status
     requires { IsEmptyStore (K.view store).records }
-    ensures { FlowAnswers K.view rests flow (L.given input.old) (L.given input.new) (L.ended input.new) result (O.view out.old) (O.view out.new) }
+    ensures answers { FlowAnswers K.view rests flow (L.given input.old) (L.given input.new) (L.ended input.new) result (O.view out.old) (O.view out.new) }
+    ensures reads { CountsSession result (L.given input.old) (L.given input.new) (L.fault_count input.old) (L.fault_count input.new) }
+    ensures writes { CountsWrites result (O.view out.old) (O.view out.new) }
 {
     match Live::open(alloc, flow, store, rests) {
         Ok(live) => answer_all(alloc, live, input, out),
@@ -114,9 +125,11 @@ fn answer_all<K: Store + Drop, L: LineSource, O: Sink>(
     input: &mut L,
     out: &mut O,
 ) -> Status
-    ensures { (flow : Dataflow) → flow_of live.session.engine ≡ flow → live.counts ≡ no_counts
+    ensures answers { (flow : Dataflow) → flow_of live.session.engine ≡ flow → live.counts ≡ no_counts
         → IsAt live.session.engine (K.view live.session.store).records live.session.arrivals (opening flow)
         → FlowAnswers K.view live.rests flow (L.given input.old) (L.given input.new) (L.ended input.new) result (O.view out.old) (O.view out.new) }
+    ensures reads { CountsSession result (L.given input.old) (L.given input.new) (L.fault_count input.old) (L.fault_count input.new) }
+    ensures writes { CountsWrites result (O.view out.old) (O.view out.new) }
 {
     let mut live = live;
     match serve(alloc, &mut live, input, out) {
@@ -154,8 +167,8 @@ fn end<O: Sink>(alloc: Global, counts: LineCounts, out: &mut O) -> Status
     }
 }
 
-// The status of a session that answered all lines, by what was counted.
-fn status_of(counts: LineCounts) -> Status
+/// The status of a session that answered all lines, by what was counted.
+pub fn status_of(counts: LineCounts) -> Status
     ensures { result ≡ status_by counts }
 {
     match counts.damaged {

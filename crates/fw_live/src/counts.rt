@@ -3,6 +3,7 @@ ghost use Rattle.std.specs.Prelude.{◌≡◌, ◌+◌, Some};
 ghost use Rattle.std.specs.Option.{option_or};
 ghost use Rattle.fw_running.specs.Steps.{outcome_of};
 ghost use Rattle.fw_live.specs.Answers.{saturated};
+ghost use Rattle.fw_live.specs.Faults.{more_by};
 ghost use Rattle.fw_live.specs.Life.{no_counts};
 ghost use Rattle.fw_live.specs.Relies.{step_counted};
 
@@ -13,7 +14,8 @@ use fw_engine::Stepped;
 pub struct LineCounts {
     /// How many lines were answered.
     pub lines: u64,
-    /// How many steps were asked for one by one, or done by `auto`, also those in which the store failed.
+    /// How many steps were asked for one by one, or done by `auto`, also those in which the store failed. A recovery that read bytes which
+    /// spell no record is not among them.
     pub steps: u64,
     /// How many of them were not enabled.
     pub idle: u64,
@@ -58,7 +60,8 @@ impl LineCounts {
 
     /// A step in which the store failed.
     pub(crate) fn count_fault(&mut self)
-        ensures { self.new ≡ record self.old { steps = saturated (self.old.steps + 1); faults = saturated (self.old.faults + 1) } }
+        ensures counted { self.new ≡ record self.old { steps = saturated (self.old.steps + 1); faults = saturated (self.old.faults + 1) } }
+        ensures faults { self.new.faults ≡ more_by 1 self.old.faults }
     {
         self.steps = self.steps.saturating_add(1);
         self.faults = self.faults.saturating_add(1);

@@ -7,6 +7,7 @@ ghost use Rattle.fw_session.specs.Session.{IsAt};
 ghost use Rattle.fw_session.specs.Story.{Story, opening};
 ghost use Rattle.fw_live.specs.Answered.{HasAnswered};
 ghost use Rattle.fw_live.specs.Asked.{asked_for};
+ghost use Rattle.fw_live.specs.Faults.{FaultsBy};
 ghost use Rattle.fw_live.specs.Life.{no_counts};
 ghost use Rattle.fw_live.specs.Relies.{IsLineReliedOn, IsAskedReliedOn};
 ghost use Rattle.fw_live.specs.Reading.{heard_in};
@@ -36,8 +37,8 @@ pub struct Live<S: Living + Drop> {
 }
 
 impl<K: Store + Drop> Live<Session<K>> {
-    /// Nothing was done, and each input is a source that is open. The store holds no record. With `rests` each line that is accepted
-    /// ends with steps to rest, as by `auto 4294967295`. The error is want of memory.
+    /// Nothing was done, and each input is a source that is open. The store holds no record. With `rests` each line that is accepted,
+    /// but `show`, ends with steps to rest, as by `auto 4294967295`. The error is want of memory.
     pub fn open(alloc: Global, flow: Flow, store: K, rests: bool) -> Result<Self, AllocError>
         requires { IsEmptyStore (K.view store).records }
         ensures at { IfOk result (λ live. IsAt live.session.engine (K.view live.session.store).records live.session.arrivals (opening flow)) }
@@ -51,8 +52,8 @@ impl<K: Store + Drop> Live<Session<K>> {
 }
 
 impl<S: Living + Drop> Live<S> {
-    /// No line was answered. With `rests` each line that is accepted ends with steps to rest, as by `auto 4294967295`. The error is want
-    /// of memory.
+    /// No line was answered. With `rests` each line that is accepted, but `show`, ends with steps to rest, as by `auto 4294967295`. The
+    /// error is want of memory.
     pub fn over(alloc: Global, session: S, rests: bool) -> Result<Self, AllocError>
         ensures session { IfOk result (λ live. live.session ≡ session) }
         ensures rests { IfOk result (λ live. live.rests ≡ rests) }
@@ -79,10 +80,11 @@ impl<S: Living + Drop> Live<S> {
             → IsLineReliedOn (S.records self.new.session) (flow_of (S.engine_of self.old.session)) (Some line.now)
             → IfOk result (λ _. HasAnswered self.old.rests (flow_of (S.engine_of self.old.session)) story kept (asked_for (flow_of (S.engine_of self.old.session)) (Some line.now))
             self.old.counts self.new.counts into.old.items into.new.items
-            (λ next lines. S.at self.new.session next × S.keeps self.new.session next lines)) }
+            (λ next lines. S.at self.new.session next × S.keeps self.new.session next lines) (S.records self.new.session)) }
         ensures flow { flow_of (S.engine_of self.new.session) ≡ flow_of (S.engine_of self.old.session) }
         ensures rests { self.new.rests ≡ self.old.rests }
         ensures told_before { IsSome (S.records self.new.session) → IsSome (S.records self.old.session) }
+        ensures faults { FaultsBy result self.old.counts.faults self.new.counts.faults (S.fault_count self.old.session) (S.fault_count self.new.session) }
         ensures lasts { S.lasts ≡ false → IsErrOf result LifeFault.StoreFault → ⊥ }
     {
         let heard = read_line(
@@ -103,10 +105,11 @@ impl<S: Living + Drop> Live<S> {
         ensures answered { (story : Story) (kept : List ℕ) → S.at self.old.session story → S.keeps self.old.session story kept
             → IfOk result (λ _. HasAnswered self.old.rests (flow_of (S.engine_of self.old.session)) story kept (asked_for (flow_of (S.engine_of self.old.session)) None)
             self.old.counts self.new.counts into.old.items into.new.items
-            (λ next lines. S.at self.new.session next × S.keeps self.new.session next lines)) }
+            (λ next lines. S.at self.new.session next × S.keeps self.new.session next lines) (S.records self.new.session)) }
         ensures flow { flow_of (S.engine_of self.new.session) ≡ flow_of (S.engine_of self.old.session) }
         ensures rests { self.new.rests ≡ self.old.rests }
         ensures told_before { IsSome (S.records self.new.session) → IsSome (S.records self.old.session) }
+        ensures faults { FaultsBy result self.old.counts.faults self.new.counts.faults (S.fault_count self.old.session) (S.fault_count self.new.session) }
         ensures lasts { S.lasts ≡ false → IsErrOf result LifeFault.StoreFault → ⊥ }
     {
         self.answer_heard(Err(LineRule::Length), into)
@@ -122,10 +125,11 @@ impl<S: Living + Drop> Live<S> {
             → IsAskedReliedOn (S.records self.new.session) (heard_in heard)
             → IfOk result (λ _. HasAnswered self.old.rests (flow_of (S.engine_of self.old.session)) story kept (heard_in heard)
             self.old.counts self.new.counts into.old.items into.new.items
-            (λ next lines. S.at self.new.session next × S.keeps self.new.session next lines)) }
+            (λ next lines. S.at self.new.session next × S.keeps self.new.session next lines) (S.records self.new.session)) }
         ensures flow { flow_of (S.engine_of self.new.session) ≡ flow_of (S.engine_of self.old.session) }
         ensures rests { self.new.rests ≡ self.old.rests }
         ensures told_before { IsSome (S.records self.new.session) → IsSome (S.records self.old.session) }
+        ensures faults { FaultsBy result self.old.counts.faults self.new.counts.faults (S.fault_count self.old.session) (S.fault_count self.new.session) }
         ensures lasts { S.lasts ≡ false → IsErrOf result LifeFault.StoreFault → ⊥ }
     {
         self.counts.count_line();

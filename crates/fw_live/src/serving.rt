@@ -1,11 +1,14 @@
 //! The lines that come in are answered.
-ghost use Rattle.std.specs.Prelude.{◌≡◌, ◌⊎◌, List, Option, Ok, Some, None, false, true, IsErr, IsErrOf, IsSome, IfErr, IfOk, IfSome, OnOk};
+ghost use Rattle.std.specs.Prelude.{◌≡◌, ◌⊎◌, ◌≤◌, List, Option, Ok, Some, None, false, true, IsErr, IsErrOf, IsSome, IfErr, IfOk, IfSome, OnOk};
 ghost use Rattle.fw_command.specs.Writing.{IsWritten};
 ghost use Rattle.fw_engine.specs.Engine.{flow_of};
-ghost use Rattle.fw_session.specs.Story.{Story};
+ghost use Rattle.fw_run.specs.declared.status.Status.TheVariants as status;
+ghost use Rattle.fw_run.specs.Call.{CountsWrites};
+ghost use Rattle.fw_session.specs.Story.{Story, IsStory};
 ghost use Rattle.fw_live.specs.Asked.{LineIn};
+ghost use Rattle.fw_live.specs.Call.{stopped_status};
 ghost use Rattle.fw_live.specs.Given.{gives_after, with_line_given};
-ghost use Rattle.fw_live.specs.Serving.{GivesAtMostOne, IsCutBy, IsPutBefore, Serves, ServesPart};
+ghost use Rattle.fw_live.specs.Serving.{CountsLines, GivesAtMostOne, GivesMany, IsCutBy, IsPutBefore, Serves, ServesPart, line_faults_after};
 
 use crate::asked::LINE_LIMIT;
 use crate::fault::ServeFault;
@@ -35,11 +38,13 @@ pub fn serve<S: Living + Drop, L: LineSource, O: Sink>(
         (record {
           counts = live.old.counts;
           records = S.records live.old.session;
+          faults = S.fault_count live.old.session;
           At = λ story kept. S.at live.old.session story × S.keeps live.old.session story kept;
         })
         (record {
           counts = live.new.counts;
           records = S.records live.new.session;
+          faults = S.fault_count live.new.session;
           At = λ story kept. S.at live.new.session story × S.keeps live.new.session story kept;
         })
         (L.given input.old) (L.given input.new) (λ text. IsWritten text (O.view out.old) (O.view out.new))) }
@@ -49,19 +54,34 @@ pub fn serve<S: Living + Drop, L: LineSource, O: Sink>(
         (record {
           counts = live.old.counts;
           records = S.records live.old.session;
+          faults = S.fault_count live.old.session;
           At = λ story kept. S.at live.old.session story × S.keeps live.old.session story kept;
         })
-        (S.records live.new.session) (L.given input.old) (L.given input.new) (IsPutBefore fault (O.view out.old) (O.view out.new))) }
+        (S.records live.new.session) (S.fault_count live.new.session) (L.given input.old) (L.given input.new) (IsPutBefore fault (O.view out.old) (O.view out.new))) }
+    // How often the source of lines failed, and the output.
+    ensures lines { OnOk result (L.fault_count input.new ≡ L.fault_count input.old) }
+    ensures lines_failed { IfErr result (λ fault. CountsLines fault (L.given input.old) (L.given input.new) (L.fault_count input.old) (L.fault_count input.new)) }
+    ensures writes { OnOk result (CountsWrites status.Done (O.view out.old) (O.view out.new)) }
+    ensures writes_failed { IfErr result (λ fault. CountsWrites (stopped_status fault) (O.view out.old) (O.view out.new)) }
     ensures lasts { S.lasts ≡ false → IsErrOf result ServeFault.Store → ⊥ }
 {
     let mut line = Vec::new(alloc);
+    is_at_stories(live);
     for _ in 0..u64::MAX {
         let Some(answer) = answer_next(alloc, live, input, &mut line)? else {
             return Ok(());
         };
+        is_at_stories(live);
         write(out, &answer)?;
     }
     Err(ServeFault::Read)
+}
+
+// Where a session is, that is a story.
+fn is_at_stories<S: Living + Drop>(live: &Live<S>)
+    ensures { (story : Story) → S.at live.now.session story → IsStory (flow_of (S.engine_of live.now.session)) story }
+{
+    let _ = live.session().engine();
 }
 
 // Answers the next line, if there is one.
@@ -79,16 +99,22 @@ fn answer_next<S: Living + Drop, L: LineSource>(
         (record {
           counts = live.old.counts;
           records = S.records live.old.session;
+          faults = S.fault_count live.old.session;
           At = λ story kept. S.at live.old.session story × S.keeps live.old.session story kept;
         })
         (record {
           counts = live.new.counts;
           records = S.records live.new.session;
+          faults = S.fault_count live.new.session;
           At = λ story kept. S.at live.new.session story × S.keeps live.new.session story kept;
         })
         (L.given input.old) (L.given input.new) (λ bytes. text.items ≡ bytes))) }
+    ensures one { IfOk result (λ answer. IfSome answer (λ text. GivesMany 1 (L.given input.old) (L.given input.new))) }
     ensures unanswered { IfErr result (λ fault. GivesAtMostOne (L.given input.old) (L.given input.new)) }
+    ensures lines { OnOk result (L.fault_count input.new ≡ L.fault_count input.old) }
+    ensures lines_failed { IfErr result (λ fault. L.fault_count input.new ≡ line_faults_after fault (L.fault_count input.old)) }
     ensures no_write { IsErrOf result ServeFault.Write → ⊥ }
+    ensures failed { IfErr result (λ fault. S.fault_count live.old.session ≤ S.fault_count live.new.session) }
     ensures lasts { S.lasts ≡ false → IsErrOf result ServeFault.Store → ⊥ }
 {
     let next = next_line(input, line)?;
@@ -114,15 +140,19 @@ fn answer_line<S: Living + Drop>(
         (record {
           counts = live.old.counts;
           records = S.records live.old.session;
+          faults = S.fault_count live.old.session;
           At = λ story kept. S.at live.old.session story × S.keeps live.old.session story kept;
         })
         (record {
           counts = live.new.counts;
           records = S.records live.new.session;
+          faults = S.fault_count live.new.session;
           At = λ story kept. S.at live.new.session story × S.keeps live.new.session story kept;
         })
         given (with_line_given (Some line.now) given) (λ bytes. text.items ≡ bytes))) }
+    ensures no_read { IsErrOf result ServeFault.Read → ⊥ }
     ensures no_write { IsErrOf result ServeFault.Write → ⊥ }
+    ensures failed { IfErr result (λ fault. S.fault_count live.old.session ≤ S.fault_count live.new.session) }
     ensures lasts { S.lasts ≡ false → IsErrOf result ServeFault.Store → ⊥ }
 {
     let mut answer = Vec::new(alloc);
@@ -144,15 +174,19 @@ fn answer_long<S: Living + Drop>(
         (record {
           counts = live.old.counts;
           records = S.records live.old.session;
+          faults = S.fault_count live.old.session;
           At = λ story kept. S.at live.old.session story × S.keeps live.old.session story kept;
         })
         (record {
           counts = live.new.counts;
           records = S.records live.new.session;
+          faults = S.fault_count live.new.session;
           At = λ story kept. S.at live.new.session story × S.keeps live.new.session story kept;
         })
         given (with_line_given None given) (λ bytes. text.items ≡ bytes))) }
+    ensures no_read { IsErrOf result ServeFault.Read → ⊥ }
     ensures no_write { IsErrOf result ServeFault.Write → ⊥ }
+    ensures failed { IfErr result (λ fault. S.fault_count live.old.session ≤ S.fault_count live.new.session) }
     ensures lasts { S.lasts ≡ false → IsErrOf result ServeFault.Store → ⊥ }
 {
     let mut answer = Vec::new(alloc);
@@ -166,6 +200,8 @@ fn next_line<L: LineSource>(input: &mut L, line: &mut Vec<u8>) -> Result<NextLin
     ensures ended { result ≡ Ok NextLine.End → L.ended input.new ≡ true }
     ensures none { IsErr result → L.given input.new ≡ L.given input.old }
     ensures faults { IsErr result → IsErrOf result ServeFault.Read ⊎ IsErrOf result ServeFault.NoMemory }
+    ensures lines { OnOk result (L.fault_count input.new ≡ L.fault_count input.old) }
+    ensures lines_failed { IfErr result (λ fault. L.fault_count input.new ≡ line_faults_after fault (L.fault_count input.old)) }
 {
     match input.next(LINE_LIMIT, line) {
         Ok(next) => Ok(next),

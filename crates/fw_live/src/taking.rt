@@ -1,7 +1,8 @@
 //! The steps of a line are taken, printed and counted.
-ghost use Rattle.std.specs.Prelude.{◌≡◌, IsSome};
+ghost use Rattle.std.specs.Prelude.{◌≡◌, ℕ, None, IsErrOf, IsSome};
 ghost use Rattle.fw_engine.specs.Engine.{flow_of};
 ghost use Rattle.fw_run.specs.Printed as spec;
+ghost use Rattle.fw_running.specs.Faults.{faults_after_step};
 ghost use Rattle.fw_running.specs.Steps.{outcome_of};
 ghost use Rattle.fw_session.specs.Story.{Story};
 ghost use Rattle.fw_live.specs.Relies.{IsItemReliedOn, IsMaybeReliedOn, IsReliedOn, GoesOnPrinting, EndsSo};
@@ -29,6 +30,9 @@ pub(crate) fn take_turn<S: Living>(
 ) -> Result<(), EngineFault>
     ensures flow { flow_of (S.engine_of session.new) ≡ flow_of (S.engine_of session.old) }
     ensures told_before { IsSome (S.records session.new) → IsSome (S.records session.old) }
+    ensures faults { S.fault_count session.new ≡ faults_after_step result (S.fault_count session.old) }
+    ensures unharmed { (story : Story) (id : ℕ) → S.at session.old story → IsErrOf result (EngineFault.Damaged id)
+        → S.records session.new ≡ None }
     ensures ends { (story : Story) → S.at session.old story
         → IsMaybeReliedOn (S.records session.new) (first_item items.now)
         → EndsSo (λ ending. GoesOnPrinting (flow_of (S.engine_of session.old)) (EndsBoth (flow_of (S.engine_of session.old)) story (first_item items.now) (rest_item rests) ending)
@@ -49,6 +53,8 @@ fn take_rest<S: Living>(
 ) -> Result<(), EngineFault>
     ensures flow { flow_of (S.engine_of session.new) ≡ flow_of (S.engine_of session.old) }
     ensures told_before { IsSome (S.records session.new) → IsSome (S.records session.old) }
+    ensures faults { S.fault_count session.new ≡ faults_after_step result (S.fault_count session.old) }
+    ensures unharmed { (id : ℕ) → IsErrOf result (EngineFault.Damaged id) → ⊥ }
     ensures ends { (story : Story) → S.at session.old story
         → EndsSo (λ ending. GoesOnPrinting (flow_of (S.engine_of session.old)) (EndsMaybe (flow_of (S.engine_of session.old)) story (rest_item rests) ending)
         (record { bytes = into.old.items; counts = counts.old }) (record { bytes = into.new.items; counts = counts.new })
@@ -70,6 +76,9 @@ fn take_first<S: Living>(
 ) -> Result<(), EngineFault>
     ensures flow { flow_of (S.engine_of session.new) ≡ flow_of (S.engine_of session.old) }
     ensures told_before { IsSome (S.records session.new) → IsSome (S.records session.old) }
+    ensures faults { S.fault_count session.new ≡ faults_after_step result (S.fault_count session.old) }
+    ensures unharmed { (story : Story) (id : ℕ) → S.at session.old story → IsErrOf result (EngineFault.Damaged id)
+        → S.records session.new ≡ None }
     ensures ends { (story : Story) → S.at session.old story
         → IsMaybeReliedOn (S.records session.new) (first_item items.now)
         → EndsSo (λ ending. GoesOnPrinting (flow_of (S.engine_of session.old)) (EndsMaybe (flow_of (S.engine_of session.old)) story (first_item items.now) ending)
@@ -92,6 +101,9 @@ fn take_item<S: Living>(
 ) -> Result<(), EngineFault>
     ensures flow { flow_of (S.engine_of session.new) ≡ flow_of (S.engine_of session.old) }
     ensures told_before { IsSome (S.records session.new) → IsSome (S.records session.old) }
+    ensures faults { S.fault_count session.new ≡ faults_after_step result (S.fault_count session.old) }
+    ensures unharmed { (story : Story) (id : ℕ) → S.at session.old story → IsErrOf result (EngineFault.Damaged id)
+        → S.records session.new ≡ None }
     ensures ends { (story : Story) → S.at session.old story
         → IsItemReliedOn (S.records session.new) item.now
         → EndsSo (λ ending. GoesOnPrinting (flow_of (S.engine_of session.old)) (EndsItem (flow_of (S.engine_of session.old)) story item.now ending)
@@ -114,6 +126,9 @@ fn take_step<S: Living>(
 ) -> Result<(), EngineFault>
     ensures flow { flow_of (S.engine_of session.new) ≡ flow_of (S.engine_of session.old) }
     ensures told_before { IsSome (S.records session.new) → IsSome (S.records session.old) }
+    ensures faults { S.fault_count session.new ≡ faults_after_step result (S.fault_count session.old) }
+    ensures unharmed { (story : Story) (id : ℕ) → S.at session.old story → IsErrOf result (EngineFault.Damaged id)
+        → S.records session.new ≡ None }
     ensures ends { (story : Story) → S.at session.old story
         → IsReliedOn (S.records session.new) step.now
         → EndsSo (λ ending. GoesOnPrinting (flow_of (S.engine_of session.old)) (EndsItem (flow_of (S.engine_of session.old)) story (Item.One step.now) ending)
@@ -136,6 +151,8 @@ fn take_auto<S: Living>(
 ) -> Result<(), EngineFault>
     ensures flow { flow_of (S.engine_of session.new) ≡ flow_of (S.engine_of session.old) }
     ensures told_before { IsSome (S.records session.new) → IsSome (S.records session.old) }
+    ensures faults { S.fault_count session.new ≡ faults_after_step result (S.fault_count session.old) }
+    ensures unharmed { (id : ℕ) → IsErrOf result (EngineFault.Damaged id) → ⊥ }
     ensures ends { (story : Story) → S.at session.old story
         → EndsSo (λ ending. GoesOnPrinting (flow_of (S.engine_of session.old)) (EndsItem (flow_of (S.engine_of session.old)) story (Item.Auto most) ending)
         (record { bytes = into.old.items; counts = counts.old }) (record { bytes = into.new.items; counts = counts.new })

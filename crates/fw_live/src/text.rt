@@ -111,7 +111,7 @@ pub fn last_line(alloc: Global, counts: LineCounts) -> Result<String, AllocError
 }
 
 // Puts bytes behind the others.
-fn push(into: &mut Vec<u8>, bytes: &[u8]) -> Result<(), AllocError>
+pub(crate) fn push(into: &mut Vec<u8>, bytes: &[u8]) -> Result<(), AllocError>
     ensures { OnOk result (into.new.items ≡ into.old.items ++ bytes.now) }
 {
     into.extend_from_slice(bytes)?;
@@ -119,7 +119,7 @@ fn push(into: &mut Vec<u8>, bytes: &[u8]) -> Result<(), AllocError>
 }
 
 // The name of a node; past the last node it is empty.
-fn name_of(flow: &Flow, node: NodeId) -> &str
+pub(crate) fn name_of(flow: &Flow, node: NodeId) -> &str
     ensures { result.now ≡ (node_at flow.now node).name }
 {
     if (node.place() as usize) < flow.nodes() {

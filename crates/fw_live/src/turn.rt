@@ -2,17 +2,20 @@
 ghost use Rattle.std.specs.Prelude.{◌≡◌, ℕ, ◌++◌, [], false, length, List, IsErr, IsErrOf, IsSome, IfOk, OnOk};
 ghost use Rattle.fw_engine.specs.Engine.{flow_of};
 ghost use Rattle.fw_session.specs.Story.{Story};
-ghost use Rattle.fw_living.specs.Life.{came_in_story};
+ghost use Rattle.fw_living.specs.Life.{came_in_story, life_faults_after, CountsKeeping};
 ghost use Rattle.fw_live.specs.Answered.{HasTurned};
 ghost use Rattle.fw_live.specs.Answers.{after_change, change_text, counts_ended, ending_text};
+ghost use Rattle.fw_live.specs.Answers as answers;
 ghost use Rattle.fw_live.specs.Asked as spec;
 ghost use Rattle.fw_live.specs.Asked.{change_fault, closes, feeds};
+ghost use Rattle.fw_live.specs.Faults.{failed_times, more_by, FaultsBy};
 ghost use Rattle.fw_live.specs.Reading.{change_in, heard_in, read_in, first_item};
 ghost use Rattle.fw_live.specs.Relies.{EndsSo, IsMaybeReliedOn};
 
 use crate::asked::{Asked, Change};
 use crate::counts::{LineCounts, TurnCounts};
 use crate::rule::LineRule;
+use crate::show::write_standing;
 use crate::taking::take_turn;
 use crate::text::{write_closed, write_damaged, write_done, write_fault, write_fed};
 use fw_engine::EngineFault;
@@ -45,7 +48,7 @@ fn fault<S: Living>(session: &S, change: &Change) -> Option<LineRule>
         → result ≡ change_fault story.now.opened (came_in_story (flow_of (S.engine_of session.now)) story) (change_in change.now) }
 {
     match change {
-        Change::Nothing => None,
+        Change::Nothing | Change::Show => None,
         Change::Feed(source, _) => feed_fault(session, *source),
         Change::Close(source) => close_fault(session, *source),
     }
@@ -88,16 +91,18 @@ pub(crate) fn turn<S: Living>(
 ) -> Result<(), LifeFault>
     ensures flow { flow_of (S.engine_of session.new) ≡ flow_of (S.engine_of session.old) }
     ensures told_before { IsSome (S.records session.new) → IsSome (S.records session.old) }
+    ensures faults { FaultsBy result counts.old.faults counts.new.faults (S.fault_count session.old) (S.fault_count session.new) }
     ensures lasts { S.lasts ≡ false → IsErrOf result LifeFault.StoreFault → ⊥ }
     ensures turned { (story : Story) → S.at session.old story → IsMaybeReliedOn (S.records session.new) (first_item asked.now.items)
         → IfOk result (λ _. HasTurned rests (flow_of (S.engine_of session.old)) story (read_in asked.now) counts.old counts.new into.old.items
-        into.new.items (λ next lines. S.at session.new next × S.keeps session.new next lines)) }
+        into.new.items (λ next lines. S.at session.new next × S.keeps session.new next lines) (S.records session.new)) }
     ensures lines { counts.new.lines ≡ counts.old.lines }
 {
     begin(alloc, session, &asked.change, into)?;
     let begun = into.len();
     let mut steps = TurnCounts::new();
     let items = asked.items.as_slice();
+    let rests = rests_behind(rests, &asked.change);
     let taken = take_turn(alloc, session, items, rests, &mut steps, into);
     counts.count_turn(steps);
     keep(session, taken, behind(into, begun))?;
@@ -105,7 +110,17 @@ pub(crate) fn turn<S: Living>(
     Ok(())
 }
 
-// Feeds a source, or closes it, and tells the epoch.
+// Whether steps to rest follow this change: behind a look none do.
+fn rests_behind(rests: bool, change: &Change) -> bool
+    ensures { result ≡ answers.rests_behind rests (change_in change.now) }
+{
+    match change {
+        Change::Show => false,
+        _ => rests,
+    }
+}
+
+// Feeds a source, or closes it, and tells the epoch; or shows where the session stands.
 fn begin<S: Living>(
     alloc: Global,
     session: &mut S,
@@ -114,10 +129,11 @@ fn begin<S: Living>(
 ) -> Result<(), LifeFault>
     ensures flow { flow_of (S.engine_of session.new) ≡ flow_of (S.engine_of session.old) }
     ensures told_before { IsSome (S.records session.new) → IsSome (S.records session.old) }
+    ensures faults { CountsKeeping result (S.records session.new) (S.at session.old) (S.fault_count session.old) (S.fault_count session.new) }
     ensures lasts { S.lasts ≡ false → IsErrOf result LifeFault.StoreFault → ⊥ }
     ensures begun { (story : Story) → S.at session.old story
         → IfOk result (λ _. S.at session.new (after_change (change_in change.now) story) × (into.new.items ≡ into.old.items
-        ++ change_text (flow_of (S.engine_of session.old)) (came_in_story (flow_of (S.engine_of session.old)) story) (change_in change.now))) }
+        ++ change_text (flow_of (S.engine_of session.old)) story (change_in change.now))) }
 {
     match change {
         Change::Nothing => {}
@@ -129,6 +145,7 @@ fn begin<S: Living>(
             let epoch = session.close(*source)?;
             write_closed(alloc, session.engine().flow(), *source, epoch, into)?;
         }
+        Change::Show => write_standing(alloc, session, into)?,
     }
     Ok(())
 }
@@ -149,6 +166,7 @@ fn keep<S: Living>(
 ) -> Result<(), LifeFault>
     ensures flow { flow_of (S.engine_of session.new) ≡ flow_of (S.engine_of session.old) }
     ensures told_before { IsSome (S.records session.new) → IsSome (S.records session.old) }
+    ensures faults { S.fault_count session.new ≡ life_faults_after result (S.fault_count session.old) }
     ensures lasts { S.lasts ≡ false → IsErrOf result LifeFault.StoreFault → ⊥ }
     ensures kept { (story : Story) → S.at session.old story → OnOk result (S.at session.new story × S.keeps session.new story lines.now) }
     ensures no_memory { IsErrOf taken EngineFault.NoMemory → IsErr result }
@@ -169,6 +187,7 @@ fn end(
 ) -> Result<(), AllocError>
     ensures text { EndsSo (λ ending. IfOk result (λ _. into.new.items ≡ into.old.items ++ ending_text ending done)) taken }
     ensures counted { EndsSo (λ ending. IfOk result (λ _. counts.new ≡ counts_ended ending counts.old)) taken }
+    ensures faults { OnOk result (counts.new.faults ≡ more_by (failed_times taken) counts.old.faults) }
     ensures no_memory { IsErrOf taken EngineFault.NoMemory → IsErr result }
     ensures lines { counts.new.lines ≡ counts.old.lines }
 {

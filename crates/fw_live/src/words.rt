@@ -4,7 +4,7 @@ ghost use Rattle.fw_command.specs.Words.{is_operand, words_in};
 ghost use Rattle.fw_live.specs.Words as spec;
 ghost use Rattle.fw_live.specs.Words.{live_in, live_of};
 
-/// The name of the flow's text, and whether each line that is accepted ends with steps to rest.
+/// The name of the flow's text, and whether each line that is accepted, but `show`, ends with steps to rest.
 #[derive(Clone, Copy, Debug)]
 pub struct LiveWords<'a> {
     pub flow: &'a str,
@@ -29,6 +29,16 @@ pub fn parse<'a>(words: &'a [&'a str]) -> Option<LiveWords<'a>>
         [command, flow] => live_words(command, flow, false),
         [command, flow, mode] => resting_words(command, flow, mode),
         _ => None,
+    }
+}
+
+/// The name of the text that the words ask for, if they are a command.
+pub fn name_of_text<'a>(words: &'a [&'a str]) -> Option<&'a str>
+    ensures { option_map (λ name. name.now) result ≡ option_map (λ live. live.flow) (live_of (words_in words.now)) }
+{
+    match parse(words) {
+        Some(words) => Some(words.flow),
+        None => None,
     }
 }
 

@@ -18,7 +18,7 @@ use Rattle.fw_session.specs.Session.{IsAt, GoesOnFirst, FirstGoesOn, came_in, is
 use Rattle.fw_session.specs.Story.{Story, system_now}
 use Rattle.fw_living.specs.declared.fault.LifeFault.{LifeFault}
 use Rattle.fw_living.specs.declared.fault.LifeFault.TheVariants.{NotFed, StoreFault}
-use Rattle.fw_living.specs.Life.{auto_steps_now, came_in_story, life_of, AutoGoesOn, GoesOnByAuto}
+use Rattle.fw_living.specs.Life.{auto_steps_now, came_in_story, life_faults_after, life_of, AutoGoesOn, CountsKeeping, GoesOnByAuto}
 
 -- ---- steps that are taken by themselves
 
@@ -113,3 +113,14 @@ pub not_closed-life : (r : Result ℕ FeedFault) (q : Result ℕ LifeFault) (s :
     → (IsErrOf r (feed.Closed s) ↔ here ≡ false) → (IsErr r → IsErrOf r (feed.Closed s)) → here ≡ opened → (IsErrOf q NotFed ↔ opened ≡ false)
 not_closed-life r q s here opened e closed only same =
     (λ f. sym same ∙ closed.0 (only (is-err r q e f)), λ c. life-closed r q s e (closed.1 (same ∙ c)))
+
+-- a store that keeps nothing is not asked
+pub counts-none : (r : Result ℕ FeedFault) (q : Result ℕ LifeFault) (records : Option Records) (At : Story → Type 0) (before after : ℕ)
+    → q ≡ life_of r → after ≡ before → CountsKeeping q records At before after
+counts-none r q records At before after e same = inl (same ∙ quiet r ∙ ap (λ p. life_faults_after p before) (sym e))
+  where
+    quiet : (r : Result ℕ FeedFault) → before ≡ life_faults_after (life_of r) before
+    quiet (Ok x) = refl
+    quiet (Err (feed.Closed s)) = refl
+    quiet (Err (feed.Full s)) = refl
+    quiet (Err feed.NoMemory) = refl

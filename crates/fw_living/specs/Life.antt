@@ -1,7 +1,9 @@
 -- How a session over which lines are answered goes on.
-use Rattle.std.specs.Prelude.{◌≡◌, ℕ, List, length, Result, Ok, Err, IfOk, IsErrOf}
+use Rattle.std.specs.Prelude.{◌≡◌, ◌⊎◌, ℕ, List, length, Option, Result, Ok, Err, IfOk, IsErrOf, IsSome}
+use Rattle.fw_outside.specs.Outside.{one_more}
 use Rattle.fw_flow.specs.declared.step.Step.{Step}
 use Rattle.fw_flow.specs.Dataflow.{Dataflow}
+use Rattle.fw_keep.specs.Stored.{Records}
 use Rattle.fw_model.specs.Auto.{AreIdle, IsFirstEnabled}
 use Rattle.fw_model.specs.Machine.{Machine}
 use Rattle.fw_model.specs.Steps.{Outcome, did, idle}
@@ -14,7 +16,7 @@ use Rattle.fw_session.specs.declared.fault.FeedFault.{FeedFault}
 use Rattle.fw_session.specs.declared.fault.FeedFault.TheVariants as feed
 use Rattle.fw_session.specs.Story.{Story, system_now, came_to, after_step}
 use Rattle.fw_living.specs.declared.fault.LifeFault.{LifeFault}
-use Rattle.fw_living.specs.declared.fault.LifeFault.TheVariants.{NotFed, NoMemory}
+use Rattle.fw_living.specs.declared.fault.LifeFault.TheVariants.{NotFed, StoreFault, NoMemory}
 
 -- how many batches came to a node
 abbrev pub came_in_story : Dataflow → Story → ℕ → ℕ
@@ -46,3 +48,18 @@ life_of (Ok epoch) = Ok epoch
 life_of (Err (feed.Closed s)) = Err NotFed
 life_of (Err (feed.Full s)) = Err NotFed
 life_of (Err feed.NoMemory) = Err NoMemory
+
+-- ---- how often the store fails
+
+-- how often a store failed behind a call that answered so: once more where it failed, and else as often as before
+abbrev pub life_faults_after : {T : Type 0} → Result T LifeFault → ℕ → ℕ
+life_faults_after (Ok x) count = count
+life_faults_after (Err NotFed) count = count
+life_faults_after (Err StoreFault) count = one_more count
+life_faults_after (Err NoMemory) count = count
+
+-- A batch is kept, and so often the store failed behind that. A store of which nothing is known may have a record where the batch goes, which
+-- is a fault too, and is not counted; one that tells its records has none there, where the session is at a story.
+abbrev pub CountsKeeping : {T : Type 0} → Result T LifeFault → Option Records → (Story → Type 0) → ℕ → ℕ → Type 0
+CountsKeeping result records At before after = (after ≡ life_faults_after result before)
+    ⊎ ((after ≡ before) × (IsSome records → (story : Story) → At story → ⊥))

@@ -3,12 +3,13 @@ ghost use Rattle.std.specs.Prelude.{◌≡◌, ◌≢◌, ◌↔◌, ◌⊎◌, 
 ghost use Rattle.fw_bag.specs.Keyed.{sorted_recs};
 ghost use Rattle.fw_keep.specs.Stored.{Records};
 ghost use Rattle.fw_flow.specs.declared.step.Step.TheVariants.{Recover};
+ghost use Rattle.fw_running.specs.Faults.{faults_after_step};
 ghost use Rattle.fw_running.specs.Steps.{MayCallByItself, MayCallStore};
 ghost use Rattle.fw_engine.specs.declared.engine.Engine.{Engine as EngineOf};
 ghost use Rattle.fw_engine.specs.Engine.{flow_of, StandsFor};
 ghost use Rattle.fw_session.specs.Session.{StepGoesOn};
 ghost use Rattle.fw_session.specs.Story.{Story, IsStory, system_now, after_feed, after_close};
-ghost use Rattle.fw_living.specs.Life.{came_in_story, AutoGoesOn};
+ghost use Rattle.fw_living.specs.Life.{came_in_story, life_faults_after, AutoGoesOn, CountsKeeping};
 
 use crate::LifeFault;
 use fw_bag::Rec;
@@ -29,6 +30,9 @@ pub trait Living {
 
     /// What its store tells of its records, if it does.
     ghost records: { Self → Option Records };
+
+    /// How often its store failed.
+    ghost fault_count: { Self → ℕ };
 
     /// It is at this story: this is what was done in it.
     ghost at: { Self → Story → Type 0 };
@@ -57,7 +61,7 @@ pub trait Living {
     /// # Errors
     ///
     /// `NotFed` where the source is not open, or 2^20 - 1 batches came to it: it is where it was. `StoreFault` where the store fails that
-    /// has to keep the batch. `NoMemory` where memory is refused, now or earlier.
+    /// has to keep the batch; of a store that tells its records that is counted once. `NoMemory` where memory is refused, now or earlier.
     fn feed(&mut self, source: NodeId, recs: &[Rec]) -> Result<u64, LifeFault>
         ensures fed { (story : Story) → at self.old story
             → IfOk result (λ epoch. (epoch ≡ came_in_story (flow_of (engine_of self.old)) story source)
@@ -67,6 +71,7 @@ pub trait Living {
         ensures stays { (story : Story) → at self.old story → IsErrOf result LifeFault.NotFed → at self.new story }
         ensures flow { flow_of (engine_of self.new) ≡ flow_of (engine_of self.old) }
         ensures store { lasts ≡ false → IsErrOf result LifeFault.StoreFault → ⊥ }
+        ensures faults { CountsKeeping result (records self.new) (at self.old) (fault_count self.old) (fault_count self.new) }
         ensures told_before { IsSome (records self.new) → IsSome (records self.old) };
 
     /// Nothing more comes to the source: the batch of this epoch, which is empty, is its last.
@@ -82,6 +87,7 @@ pub trait Living {
         ensures stays { (story : Story) → at self.old story → IsErrOf result LifeFault.NotFed → at self.new story }
         ensures flow { flow_of (engine_of self.new) ≡ flow_of (engine_of self.old) }
         ensures store { lasts ≡ false → IsErrOf result LifeFault.StoreFault → ⊥ }
+        ensures faults { CountsKeeping result (records self.new) (at self.old) (fault_count self.old) (fault_count self.new) }
         ensures told_before { IsSome (records self.new) → IsSome (records self.old) };
 
     /// Takes a step, and tells what it shows: Idle where it is not enabled, and where it is the injection of the last batch of a source
@@ -96,6 +102,7 @@ pub trait Living {
         ensures calls { IsErrOf result EngineFault.StoreFault → MayCallStore (flow_of (engine_of self.old)) step.now }
         ensures tells { step.now ≢ Recover → is_some (records self.new) ≡ is_some (records self.old) }
         ensures flow { flow_of (engine_of self.new) ≡ flow_of (engine_of self.old) }
+        ensures faults { fault_count self.new ≡ faults_after_step result (fault_count self.old) }
         ensures told_before { IsSome (records self.new) → IsSome (records self.old) };
 
     /// Takes the first step that is enabled, in the order of `auto`, where no source that is open injects its last batch. The errors are
@@ -105,6 +112,7 @@ pub trait Living {
         ensures calls { IsErrOf result EngineFault.StoreFault → MayCallByItself (flow_of (engine_of self.old)) }
         ensures tells { is_some (records self.new) ≡ is_some (records self.old) }
         ensures flow { flow_of (engine_of self.new) ≡ flow_of (engine_of self.old) }
+        ensures faults { fault_count self.new ≡ faults_after_step result (fault_count self.old) }
         ensures told_before { IsSome (records self.new) → IsSome (records self.old) };
 
     /// Keeps what was done, at the end of a line, before its answer is told, and these lines, of what its steps showed.
@@ -116,5 +124,7 @@ pub trait Living {
         ensures kept { (story : Story) → at self.old story → OnOk result (at self.new story × keeps self.new story lines.now) }
         ensures flow { flow_of (engine_of self.new) ≡ flow_of (engine_of self.old) }
         ensures store { lasts ≡ false → IsErrOf result LifeFault.StoreFault → ⊥ }
+        ensures faults { fault_count self.new ≡ life_faults_after result (fault_count self.old) }
+        ensures not_fed { IsErrOf result LifeFault.NotFed → ⊥ }
         ensures told_before { IsSome (records self.new) → IsSome (records self.old) };
 }

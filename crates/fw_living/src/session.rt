@@ -21,6 +21,8 @@ impl<K: Store + Drop> Living for Session<K> {
 
     ghost records = { λ session. (K.view session.store).records };
 
+    ghost fault_count = { λ session. (K.view session.store).faults };
+
     ghost at = { λ session story. IsAt session.engine (K.view session.store).records session.arrivals story };
 
     ghost keeps = { λ session story lines. IsAt session.engine (K.view session.store).records session.arrivals story };

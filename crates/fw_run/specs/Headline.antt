@@ -60,7 +60,7 @@ pub record Headline (sys : System) (items : List Item) : Type 0 where
   pub one_run : HasOneRun sys items
   -- the dataflow has one denotation; and whatever steps are taken, those of the items or others, all is right where they end
   pub right : RunsRight sys
-  -- where the items end in enough `auto`, their run has acknowledged all that is denoted, whatever failed before
+  -- where the items end in enough `auto`, and no node is failed as these begin, their run has acknowledged all that is denoted, whatever failed before
   pub acknowledged : (family : Family) → IsDenotation sys family → EndInAuto sys family items
       → IsAllAcknowledged sys family one_run.outcomes one_run.last
   -- starts of a held run, each from what the one before kept, are one run all together: each output has acknowledged its first epochs or

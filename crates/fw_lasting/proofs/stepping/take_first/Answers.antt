@@ -22,3 +22,6 @@ returns-clause-leaves g c =
     let shared : HasShared c.args.engine.now c.share.new.self = record { keep = c.share.ensures.keep; flow = c.share.ensures.flow; stands = c.share.ensures.stands } in
     leaves-first g.K.Store.view c.args.engine.now c.share.new.self by.new.self c.args.store.now by.new.store _ by.result shared
     (subst IsWellFormed (c.flow.ensures ∙ sym c.share.ensures.flow) c.flow_is_well_formed.ensures) by.ensures
+
+pub returns-clause-faults : goal.returns-clause-faults
+returns-clause-faults g c = c.auto_step_within.ensures.faults

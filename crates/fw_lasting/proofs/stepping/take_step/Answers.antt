@@ -61,3 +61,6 @@ returns-in_default-clause-leaves g c =
     let shared : HasShared c.args.engine.now c.share.new.self = record { keep = c.share.ensures.keep; flow = c.share.ensures.flow; stands = c.share.ensures.stands } in
     leaves-step g.K.Store.view c.args.engine.now c.share.new.self c.step.new.self c.args.store.now c.step.new.store c.args.step.now c.step.result shared
     (subst IsWellFormed (c.flow.ensures ∙ sym c.share.ensures.flow) c.flow_is_well_formed.ensures) c.in_default.not-Collect c.step.ensures
+
+pub returns-in_default-clause-faults : goal.returns-in_default-clause-faults
+returns-in_default-clause-faults g c = c.step.ensures.faults

@@ -1,7 +1,7 @@
 use Rattle.fw_command.specs.Words.{words_in}
-use Rattle.fw_run.proofs.CountLaws.{never_fall-notes}
+use Rattle.fw_run.proofs.CountLaws.{never_fall-notes, writes_told}
 use Rattle.fw_live.specs.Words.{live_of}
-use Rattle.fw_live.proofs.CommandLaws.{live-told}
+use Rattle.fw_live.proofs.CommandLaws.{live-told, reads-told}
 use Rattle.fw_live.proofs.command.falkirk_live.Goals as goal
 
 pub returns-clause-answers : goal.returns-clause-answers
@@ -14,3 +14,17 @@ returns-clause-answers g c =
 
 pub returns-clause-never_fall : goal.returns-clause-never_fall
 returns-clause-never_fall g c = never_fall-notes _ (g.N.Sink.view c.args.notes.now) (g.N.Sink.view c.tell.new.notes) c.tell.ensures.notes.told
+
+pub returns-clause-reads : goal.returns-clause-reads
+returns-clause-reads g c =
+    let input = c.run-status.new.input in
+    reads-told (g.F.Folder.texts c.args.folder.now) (live_of (words_in c.args.words.now)) (g.L.LineSource.given c.args.input.now)
+    (g.L.LineSource.given input) c.run-status.result c.tell.result
+    (record { folder = g.F.Folder.fault_count c.args.folder.now; lines = g.L.LineSource.fault_count c.args.input.now })
+    (record { folder = g.F.Folder.fault_count c.run-status.new.folder; lines = g.L.LineSource.fault_count input }) (g.O.Sink.view c.args.out.now)
+    (g.O.Sink.view c.run-status.new.out) c.tell.ensures.status c.run-status.ensures.reads
+
+pub returns-clause-writes : goal.returns-clause-writes
+returns-clause-writes g c =
+    writes_told c.run-status.result c.tell.result (g.O.Sink.view c.args.out.now) (g.O.Sink.view c.run-status.new.out) c.tell.ensures.status
+    c.run-status.ensures.writes

@@ -1,7 +1,9 @@
-use Rattle.std.proofs.Common.{refl, sym, ◌∙◌}
+use Rattle.std.proofs.Common.{refl, sym, ap, ◌∙◌}
+use Rattle.fw_command.specs.Reading.{read_faults_after}
 use Rattle.fw_command.specs.Words.{words_in}
+use Rattle.fw_run.specs.declared.status.Status.TheVariants.{BadWords}
 use Rattle.fw_live.specs.Words.{live_in, live_of}
-use Rattle.fw_live.proofs.CommandLaws.{keeps-asked, keeps-unasked, live-answered, live-no_words, live-unread-by}
+use Rattle.fw_live.proofs.CommandLaws.{keeps-asked, keeps-unasked, live-answered, live-no_words, live-unread-by, reads-no_words, reads-session, reads-unread, writes-none, writes-unread}
 use Rattle.fw_live.proofs.command.run.Goals as goal
 
 pub returns-in_default-clause-answers : goal.returns-in_default-clause-answers
@@ -19,7 +21,7 @@ returns-in-Ok-clause-answers g c =
     let input = c.answer_lines.new.input in
     live-answered g.K.Store.view (g.F.Folder.texts c.args.folder.now) (live_of (words_in c.args.words.now)) (live_in c.in-Some.words) c.in-Ok.flow
     (g.L.LineSource.given c.args.input.now) (g.L.LineSource.given input) (g.L.LineSource.ended input) c.answer_lines.result (view c.args.out.now)
-    (view c.answer_lines.new.out) (sym c.in-Some.ensures) c.in-Ok.ensures.flow c.answer_lines.ensures
+    (view c.answer_lines.new.out) (sym c.in-Some.ensures) c.in-Ok.ensures.flow c.answer_lines.ensures.answers
 
 pub returns-in-Ok-clause-folder : goal.returns-in-Ok-clause-folder
 returns-in-Ok-clause-folder g c =
@@ -36,3 +38,29 @@ pub returns-in-Err-clause-folder : goal.returns-in-Err-clause-folder
 returns-in-Err-clause-folder g c =
     keeps-asked g.F.Folder.texts g.F.Folder.fetch_count (live_of (words_in c.args.words.now)) (live_in c.in-Some.words) c.args.folder.now
     c.fetch_flow.new.folder (sym c.in-Some.ensures) c.fetch_flow.ensures.texts_stay c.fetch_flow.ensures.counted
+
+pub returns-in_default-clause-reads : goal.returns-in_default-clause-reads
+returns-in_default-clause-reads g c =
+    reads-no_words (g.F.Folder.texts c.args.folder.now) (live_of (words_in c.args.words.now)) (g.L.LineSource.given c.args.input.now)
+    (record { folder = g.F.Folder.fault_count c.args.folder.now; lines = g.L.LineSource.fault_count c.args.input.now }) (g.O.Sink.view c.args.out.now)
+
+pub returns-in_default-clause-writes : goal.returns-in_default-clause-writes
+returns-in_default-clause-writes g c = writes-none BadWords (g.O.Sink.view c.args.out.now) (λ count. refl)
+
+pub returns-in-Ok-clause-reads : goal.returns-in-Ok-clause-reads
+returns-in-Ok-clause-reads g c =
+    let input = c.answer_lines.new.input in
+    reads-session (g.F.Folder.texts c.args.folder.now) (live_of (words_in c.args.words.now)) (live_in c.in-Some.words) c.in-Ok.flow
+    (g.L.LineSource.given c.args.input.now) (g.L.LineSource.given input) c.answer_lines.result (g.F.Folder.fault_count c.args.folder.now)
+    (g.F.Folder.fault_count c.fetch_flow.new.folder) (g.L.LineSource.fault_count c.args.input.now) (g.L.LineSource.fault_count input)
+    (g.O.Sink.view c.args.out.now) (g.O.Sink.view c.answer_lines.new.out) (sym c.in-Some.ensures) c.in-Ok.ensures.flow
+    (c.fetch_flow.ensures.faults ∙ ap (λ read. read_faults_after read (g.F.Folder.fault_count c.args.folder.now)) c.in-Ok.is) c.answer_lines.ensures.reads
+
+pub returns-in-Err-clause-reads : goal.returns-in-Err-clause-reads
+returns-in-Err-clause-reads g c =
+    rw (c.unread.ensures) (reads-unread c.fetch_flow.result (g.F.Folder.texts c.args.folder.now) (live_of (words_in c.args.words.now))
+    (g.L.LineSource.given c.args.input.now) c.in-Err.fault (g.F.Folder.fault_count c.args.folder.now) (g.F.Folder.fault_count c.fetch_flow.new.folder)
+    (g.L.LineSource.fault_count c.args.input.now) (g.O.Sink.view c.args.out.now) c.in-Err.is c.fetch_flow.ensures.faults)
+
+pub returns-in-Err-clause-writes : goal.returns-in-Err-clause-writes
+returns-in-Err-clause-writes g c = rw (c.unread.ensures) (writes-unread c.in-Err.fault (g.O.Sink.view c.args.out.now))

@@ -12,9 +12,9 @@ returns-clause-answered g c = λ given.
     let new = c.answer.new.self in
     let flow = flow_of (g.S.Living.engine_of old.session) in
     serves-one old.rests flow
-    (record { counts = old.counts; records = g.S.Living.records old.session; At = λ story kept. g.S.Living.at old.session story × g.S.Living.keeps old.session story kept })
-    (record { counts = new.counts; records = g.S.Living.records new.session; At = λ story kept. g.S.Living.at new.session story × g.S.Living.keeps new.session story kept })
-    (Some c.args.line.now) given (with_line_given (Some c.args.line.now) given) c.answer.new.into.items refl
+    (record { counts = old.counts; records = g.S.Living.records old.session; faults = g.S.Living.fault_count old.session; At = λ story kept. g.S.Living.at old.session story × g.S.Living.keeps old.session story kept })
+    (record { counts = new.counts; records = g.S.Living.records new.session; faults = g.S.Living.fault_count new.session; At = λ story kept. g.S.Living.at new.session story × g.S.Living.keeps new.session story kept })
+    (Some c.args.line.now) given (with_line_given (Some c.args.line.now) given) c.answer.new.into.items refl c.in_ok-answer.ensures.faults
     (λ story kept there relied. subst (λ bytes. HasAnswered old.rests flow story kept (asked_for flow (Some c.args.line.now)) old.counts new.counts bytes c.answer.new.into.items
-    (λ s lines. g.S.Living.at new.session s × g.S.Living.keeps new.session s lines)) c.new-answer.ensures.items
+    (λ s lines. g.S.Living.at new.session s × g.S.Living.keeps new.session s lines) (g.S.Living.records new.session)) c.new-answer.ensures.items
     (c.in_ok-answer.ensures.answered story kept there.0 there.1 relied))

@@ -1,5 +1,6 @@
-use Rattle.std.proofs.Common.{◌≡◌, ◌++◌, ◌∙◌, refl, sym, ap, arith}
+use Rattle.std.proofs.Common.{◌≡◌, ◌++◌, ◌∙◌, Err, refl, sym, ap, arith}
 use Rattle.std.proofs.lemmas.Result.{err_from_is_err_and}
+use Rattle.fw_running.specs.Faults.{faults_after_step}
 use Rattle.fw_running.specs.EffectText.{outcome_text}
 use Rattle.fw_running.specs.Steps.{outcome_of}
 use Rattle.fw_engine.specs.Engine.{flow_of}
@@ -12,6 +13,7 @@ loop-init g c =
     record {
       flow = refl;
       told_before = λ told. told;
+      faults = refl;
       taken = λ story at. auto-begun (flow_of (g.S.Living.engine_of old)) story (record { bytes = c.args.into.now.items; counts = c.args.counts.now })
           (g.S.Living.at old) at;
     }
@@ -26,6 +28,7 @@ loop-preserved g c =
     record {
       flow = c.auto_step.ensures.flow ∙ inv.flow;
       told_before = λ told. inv.told_before (c.auto_step.ensures.told_before told);
+      faults = c.in_ok-stepped.ensures.faults ∙ inv.faults;
       taken = λ story at. auto-more (flow_of (g.S.Living.engine_of old)) (flow_of (g.S.Living.engine_of now)) story c.loop.counter o
           (g.S.Living.at now) (g.S.Living.at new) (record { bytes = c.args.into.now.items; counts = c.args.counts.now })
           (record { bytes = c.loop.into.items; counts = c.loop.counts }) (record { bytes = c.write_outcome.new.into.items; counts = c.count.new.self })
@@ -62,3 +65,15 @@ returns-clause-ends g c = λ story at.
     auto-full (flow_of (g.S.Living.engine_of old)) story c.loop.counter c.args.most (g.S.Living.at now)
     (record { bytes = c.args.into.now.items; counts = c.args.counts.now }) (record { bytes = c.loop.into.items; counts = c.loop.counts })
     (c.loop.invariant.taken story at) whole
+
+pub returns-in_err-stepped-clause-faults : goal.returns-in_err-stepped-clause-faults
+returns-in_err-stepped-clause-faults g c =
+    let p = err_from_is_err_and c.from_residual.result c.from_residual.ensures.1 in
+    rw (p.1, p.2) (c.in_err-stepped.ensures.faults
+    ∙ ap (faults_after_step {T = Unit {0}} (Err c.in_err-stepped.field-0.0)) c.loop.invariant.faults)
+
+pub returns-then-is_idle-clause-faults : goal.returns-then-is_idle-clause-faults
+returns-then-is_idle-clause-faults g c = c.in_ok-stepped.ensures.faults ∙ c.loop.invariant.faults
+
+pub returns-clause-faults : goal.returns-clause-faults
+returns-clause-faults g c = c.loop.invariant.faults

@@ -11,6 +11,7 @@ abbrev pub invariant-loop : goal.invariant-loop
 invariant-loop g l = record {
   flow : flow_of (g.S.Living.engine_of l.session) ≡ flow_of (g.S.Living.engine_of l.fn.session);
   told_before : IsSome (g.S.Living.records l.session) → IsSome (g.S.Living.records l.fn.session);
+  faults : g.S.Living.fault_count l.session ≡ g.S.Living.fault_count l.fn.session;
   taken : (story : Story) → g.S.Living.at l.fn.session story
       → GoesOnPrinting (flow_of (g.S.Living.engine_of l.fn.session)) (HasTaken (flow_of (g.S.Living.engine_of l.fn.session)) story l.counter)
       (record { bytes = l.fn.into.items; counts = l.fn.counts }) (record { bytes = l.into.items; counts = l.counts })

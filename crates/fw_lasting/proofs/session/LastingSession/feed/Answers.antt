@@ -1,4 +1,4 @@
-use Rattle.std.proofs.Common.{◌≡◌, refl, ◌<◌, ◌-◌, ◌^◌, false, Some, ap, subst, sym, arith}
+use Rattle.std.proofs.Common.{◌≡◌, refl, inl, Err, ◌<◌, ◌-◌, ◌^◌, false, Some, ap, subst, sym, arith}
 use Rattle.std.specs.Prelude.{IfOk}
 use Rattle.std.specs.FinMap as map
 use Rattle.std.specs.Option.{ForSome}
@@ -9,7 +9,10 @@ use Rattle.fw_keep.specs.Catalogue.{KeepState}
 use Rattle.fw_keep.specs.Stored.{HasEntries}
 use Rattle.fw_session.specs.Session.{IsAt}
 use Rattle.fw_session.specs.Story.{after_feed}
-use Rattle.fw_lasting.proofs.UnderWayLaws.{fed-left, fed-under, none-left, on-err, other-stored}
+use Rattle.fw_lasting.proofs.UnderWayLaws.{counts-keeping, fed-left, fed-under, none-left, on-err, other-stored, put-done}
+use Rattle.fw_living.proofs.LivingLaws.{counts-none}
+use Rattle.fw_lasting.specs.UnderWay.{CountsPutting}
+use Rattle.std.proofs.lemmas.Result.{err_from_is_err_and}
 use Rattle.fw_lasting.proofs.session.LastingSession.feed.Goals as goal
 
 pub invariant_of-self-2 : goal.invariant_of-self-2
@@ -73,3 +76,32 @@ returns-in-Err-feed_engine-clause-left g c =
     (subst (λ n. n < 2 ^ 20 - 1) e c.in-Ok.ensures.room)
     (subst (λ n. ForSome after (λ held. map.get held (batch_id s n) ≡ Some (batch_bytes false recs))) e put.put)
     (subst (λ n. ChangesOnly (batch_id s n) before after) e put.others) u
+
+pub returns-in-Err-clause-faults : goal.returns-in-Err-clause-faults
+returns-in-Err-clause-faults g c =
+    let store = g.K.Store.view c.args.self.now.store in
+    counts-none (Err c.in-Err.fault) (Err c.of_feed.result) store.records _ store.faults store.faults c.of_feed.ensures refl
+
+pub returns-in_err-put_batch-clause-faults : goal.returns-in_err-put_batch-clause-faults
+returns-in_err-put_batch-clause-faults g c =
+    let p = err_from_is_err_and c.from_residual.result c.from_residual.ensures.1 in
+    let old = c.args.self.now in
+    let view = g.K.Store.view in
+    let before = view old.store in
+    let after = view c.put_batch.new.store in
+    rw (p.1, p.2) (counts-keeping c.in_err-put_batch.field-0.0 old.digests old.engine old.arrivals before.records after.records old.turn
+    c.args.source before.faults after.faults c.in-Ok.ensures.open (λ told. c.in_err-put_batch.ensures.not_put)
+    (subst (λ n. CountsPutting {T = Unit {0}} (Err c.in_err-put_batch.field-0.0) (batch_id c.args.source n) after.records before.faults after.faults) c.in-Ok.ensures.epoch
+    c.in_err-put_batch.ensures.faults))
+
+pub returns-in-Ok-feed_engine-clause-faults : goal.returns-in-Ok-feed_engine-clause-faults
+returns-in-Ok-feed_engine-clause-faults g c =
+    let view = g.K.Store.view in
+    let after = view c.put_batch.new.store in
+    inl (put-done {T = Unit {0}} tt (batch_id c.args.source c.in-Ok.epoch) after.records (view c.args.self.now.store).faults after.faults c.in_ok-put_batch.ensures.faults)
+
+pub returns-in-Err-feed_engine-clause-faults : goal.returns-in-Err-feed_engine-clause-faults
+returns-in-Err-feed_engine-clause-faults g c =
+    let view = g.K.Store.view in
+    let after = view c.put_batch.new.store in
+    inl (put-done {T = Unit {0}} tt (batch_id c.args.source c.in-Ok.epoch) after.records (view c.args.self.now.store).faults after.faults c.in_ok-put_batch.ensures.faults)

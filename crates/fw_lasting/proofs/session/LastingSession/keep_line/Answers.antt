@@ -1,10 +1,11 @@
-use Rattle.std.proofs.Common.{◌≡◌, refl, arith}
+use Rattle.std.proofs.Common.{◌≡◌, Err, refl, subst, ◌∙◌, arith}
 use Rattle.fw_hold.specs.Kept.{root_id}
 use Rattle.fw_hold.proofs.RootIdLaws.{root_id-large}
 use Rattle.fw_held.proofs.StoreLaws.{there-stored}
 use Rattle.fw_session.specs.Story.{system_now}
 use Rattle.fw_engine.specs.Engine.{flow_of, keep_of}
-use Rattle.fw_lasting.proofs.UnderWayLaws.{SweepLeaves, has-there, none-left, on-err, other-stored, root-is, root-left, root-under, swept-last, swept-left, swept-under}
+use Rattle.fw_lasting.proofs.UnderWayLaws.{SweepLeaves, has-there, none-left, on-err, other-stored, root-is, root-left, root-under, sweep-counts, swept-last, swept-left, swept-under}
+use Rattle.fw_running.specs.Faults.{faults_after_step}
 use Rattle.fw_lasting.proofs.session.LastingSession.keep_line.Goals as goal
 
 pub returns-in_err-root-clause-left : goal.returns-in_err-root-clause-left
@@ -105,3 +106,14 @@ returns-clause-left g c =
     let under = root-under old.digests old.engine old.arrivals before mid old.turn old.steps lines kept now root c.stands_over_others.ensures old.few n put
     others u in
     swept-left old.digests old.engine c.sweep.new.self.engine mid after old.turn old.steps lines kept now root old.few n is under.holds leaves
+
+pub returns-clause-faults : goal.returns-clause-faults
+returns-clause-faults g c =
+    let view = g.K.Store.view in
+    let fault = c.in-Err.fault in
+    rw (c.of_sweep.ensures) (sweep-counts fault (view c.args.self.now.store).faults (view c.sweep.new.store).faults
+    (subst (λ n. (view c.sweep.new.store).faults ≡ faults_after_step {T = Unit {0}} (Err fault) n) c.in_ok-put_next.ensures.faults c.in-Err.ensures.faults)
+    c.in-Err.ensures.undamaged)
+
+pub returns-in-Ok-clause-faults : goal.returns-in-Ok-clause-faults
+returns-in-Ok-clause-faults g c = c.in-Ok.ensures.faults ∙ c.in_ok-put_next.ensures.faults

@@ -4,7 +4,7 @@ use Rattle.fw_engine.specs.Engine.{flow_of}
 use Rattle.fw_session.specs.Session.{IsAt, came_in, is_open_in}
 use Rattle.fw_session.specs.Story.{after_close}
 use Rattle.fw_living.specs.Life.{came_in_story}
-use Rattle.fw_living.proofs.LivingLaws.{at-same, fed-life, is-err, never-store, not_closed-life}
+use Rattle.fw_living.proofs.LivingLaws.{at-same, counts-none, fed-life, is-err, never-store, not_closed-life}
 use Rattle.fw_living.proofs.session.SessionLiving.close.Goals as goal
 
 pub returns-clause-closed : goal.returns-clause-closed
@@ -39,3 +39,11 @@ returns-clause-store g c = λ lasts. never-store c.close.result c.life.result c.
 
 pub returns-clause-told_before : goal.returns-clause-told_before
 returns-clause-told_before g c = λ told. subst (λ s. IsSome (g.K.Store.view s).records) c.close.ensures.store told
+
+pub returns-clause-faults : goal.returns-clause-faults
+returns-clause-faults g c =
+    let old = c.args.self.now in
+    let new = c.close.new.self in
+    let view = g.K.Store.view in
+    counts-none c.close.result c.life.result (view new.store).records (IsAt old.engine (view old.store).records old.arrivals) (view old.store).faults
+    (view new.store).faults c.life.ensures (ap (λ store. (view store).faults) c.close.ensures.store)

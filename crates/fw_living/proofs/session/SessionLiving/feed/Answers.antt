@@ -5,7 +5,7 @@ use Rattle.fw_engine.specs.Engine.{flow_of}
 use Rattle.fw_session.specs.Session.{IsAt, came_in, is_open_in}
 use Rattle.fw_session.specs.Story.{after_feed}
 use Rattle.fw_living.specs.Life.{came_in_story}
-use Rattle.fw_living.proofs.LivingLaws.{at-same, fed-life, is-err, never-store, not_fed-life}
+use Rattle.fw_living.proofs.LivingLaws.{at-same, counts-none, fed-life, is-err, never-store, not_fed-life}
 use Rattle.fw_living.proofs.session.SessionLiving.feed.Goals as goal
 
 pub returns-clause-fed : goal.returns-clause-fed
@@ -39,3 +39,11 @@ returns-clause-store g c = λ lasts. never-store c.feed.result c.life.result c.l
 
 pub returns-clause-told_before : goal.returns-clause-told_before
 returns-clause-told_before g c = λ told. subst (λ s. IsSome (g.K.Store.view s).records) c.feed.ensures.store told
+
+pub returns-clause-faults : goal.returns-clause-faults
+returns-clause-faults g c =
+    let old = c.args.self.now in
+    let new = c.feed.new.self in
+    let view = g.K.Store.view in
+    counts-none c.feed.result c.life.result (view new.store).records (IsAt old.engine (view old.store).records old.arrivals) (view old.store).faults
+    (view new.store).faults c.life.ensures (ap (λ store. (view store).faults) c.feed.ensures.store)

@@ -7,8 +7,8 @@ use fw_outside::Sink;
 use std::alloc::{AllocError, Global};
 use std::rt::Files;
 
-/// Shows what each file is that is named by digits alone, a line for each: a record, or the root of a held run. Nodes are told by the
-/// names that the flow has, and without one by their numbers. Whether each file is one of these.
+/// Shows what each file is that is named by digits alone, a line for each: a record, a batch that came to a session, or a root. Nodes are
+/// told by the names that the flow has, and without one by their numbers. Whether each file is one of these.
 ///
 /// # Errors
 ///
@@ -42,7 +42,7 @@ fn show_by<R: Files, O: Sink>(
     Ok(are_all)
 }
 
-// Tells what was found in a file, and whether that is a record or a root.
+// Tells what was found in a file, and whether that is a record, a batch or a root.
 fn tell_file(
     alloc: Global,
     flow: Option<&Flow>,
@@ -52,7 +52,7 @@ fn tell_file(
 ) -> Result<bool, AllocError> {
     write!(told, "{name} ")?;
     let is_record = match found {
-        Ok(Some(bytes)) => tell_bytes(alloc, flow, &bytes, told)?,
+        Ok(Some(bytes)) => tell_bytes(alloc, flow, name, &bytes, told)?,
         Ok(None) => {
             told.push_str("no record: name")?;
             false

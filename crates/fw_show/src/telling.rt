@@ -1,14 +1,20 @@
 //! What the bytes of a file spell.
+ghost use Rattle.std.specs.Prelude.{◌≡◌, ℕ, Some};
+ghost use Rattle.fw_came.specs.Came as came;
+
+use fw_bytes::ReadFault;
+use fw_came::{batch_id, read_batch};
 use fw_flow::{Flow, NodeId};
 use fw_frontier::Entries;
 use fw_record::{Checkpoint, Event, Record, RecordFault, decode};
 use fw_root::root_head;
 use std::alloc::{AllocError, Global};
 
-/// Tells what record or root these bytes spell, and whether they spell one.
+/// Tells what record, batch or root the bytes of the file of this name spell, and whether they spell one.
 pub(crate) fn tell_bytes(
     alloc: Global,
     flow: Option<&Flow>,
+    name: &str,
     bytes: &[u8],
     told: &mut String,
 ) -> Result<bool, AllocError> {
@@ -17,6 +23,9 @@ pub(crate) fn tell_bytes(
         write!(told, "root turn {turn} bytes {bytes}")?;
         return Ok(true);
     }
+    if let Some(place) = batch_named(name) {
+        return tell_batch(alloc, flow, place, bytes, told);
+    }
     match decode(alloc, bytes) {
         Ok(record) => tell_record(flow, &record, bytes.len(), told),
         Err(RecordFault::BadRecord { at }) => {
@@ -24,6 +33,47 @@ pub(crate) fn tell_bytes(
             Ok(false)
         }
         Err(RecordFault::NoMemory) => Err(AllocError),
+    }
+}
+
+// The source and the epoch of the batch whose file has this name; none, where no batch's has.
+fn batch_named(name: &str) -> Option<(u32, u32)> {
+    batch_under(name.parse::<u64>().ok()?)
+}
+
+// The source and the epoch of the batch that stands under an id; none, where none does.
+fn batch_under(id: u64) -> Option<(u32, u32)>
+    ensures { (source epoch : ℕ) → result ≡ Some (source, epoch) → id ≡ came.batch_id source epoch }
+{
+    let place = id.checked_sub(1 << 63)?;
+    let source = u32::try_from(place >> 24).ok()?;
+    let epoch = (place & 0xFF_FFFF) as u32;
+    (batch_id(source, epoch) == id).then_some((source, epoch))
+}
+
+// Tells the batch of this source and epoch, and whether the bytes spell one.
+fn tell_batch(
+    alloc: Global,
+    flow: Option<&Flow>,
+    (source, epoch): (u32, u32),
+    bytes: &[u8],
+    told: &mut String,
+) -> Result<bool, AllocError> {
+    match read_batch(alloc, bytes) {
+        Ok(batch) => {
+            told.push_str("batch node ")?;
+            tell_node(flow, NodeId::at(source), told)?;
+            let (recs, bytes) = (batch.recs.as_slice().len(), bytes.len());
+            let end = if batch.last { " last" } else { "" };
+            write!(told, " epoch {epoch} recs {recs}{end} bytes {bytes}")?;
+            Ok(true)
+        }
+        Err(ReadFault::Broken { left }) => {
+            let at = bytes.len().saturating_sub(left);
+            write!(told, "no record: field at byte {at}")?;
+            Ok(false)
+        }
+        Err(ReadFault::NoMemory) => Err(AllocError),
     }
 }
 

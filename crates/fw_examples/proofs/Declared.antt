@@ -1,16 +1,18 @@
 -- The running total, declared name by name.
-use Rattle.std.proofs.Common.{List, [], Result, Ok, Err, MatchResult, ap, codes, refl, subst, sym, true, ◌∙◌, ◌≡◌}
+use Rattle.std.proofs.Common.{List, [], None, Result, Ok, Err, MatchResult, ap, codes, refl, subst, sym, true, ◌∙◌, ◌≡◌}
 use Rattle.std.proofs.lemmas.Bool.{false≢true}
 use Rattle.fw_flow.specs.Builder.{Declares, IfBroken, has_names, with_declaration}
 use Rattle.fw_flow.specs.Check.{IsChecked, IsFirstBroken}
 use Rattle.fw_flow.specs.Dataflow.{Dataflow}
+use Rattle.fw_flow.specs.Expand.{expand}
+use Rattle.fw_flow.proofs.ExpandLaws.{checked-whole}
 use Rattle.fw_flow.specs.Raw.{flow_of_declarations, is_new}
 use Rattle.fw_flow.specs.declared.builder.BuildFault.{BuildFault}
 use Rattle.fw_flow.specs.declared.builder.BuildFault.TheVariants.{BadName, Broken, NameTaken, NoMemory}
 use Rattle.fw_flow.specs.declared.kind.Policy.TheVariants as policy
-use Rattle.fw_flow.specs.declared.raw.Declaration.{Declaration}
+use Rattle.fw_flow.specs.Declaring.{Declaration}
 use Rattle.fw_flow.specs.declared.raw.Declaration.TheVariants.{Edge, Node}
-use Rattle.fw_flow.specs.declared.raw.Declared.{Declared}
+use Rattle.fw_flow.specs.Declaring.{Declared}
 use Rattle.fw_flow.specs.declared.kind.Kind.TheVariants.{Input, OutputEpoch, Total}
 use Rattle.fw_flow.proofs.Checks.{checked_or_refused}
 use Rattle.fw_examples.specs.RunningTotal.{total_flow}
@@ -18,13 +20,13 @@ use Rattle.fw_examples.proofs.Witnesses.{totals_are_well_formed}
 
 -- the five declarations
 abbrev source : Declaration
-source = Node (codes "src") Input policy.None
+source = Node (codes "src") Input policy.None None None
 
 abbrev total : Declaration
-total = Node (codes "run") Total policy.Lazy
+total = Node (codes "run") Total policy.Lazy None None
 
 abbrev output : Declaration
-output = Node (codes "out") OutputEpoch policy.None
+output = Node (codes "out") OutputEpoch policy.None None None
 
 abbrev to_total : Declaration
 to_total = Edge (codes "a") (codes "src") (codes "run")
@@ -64,13 +66,13 @@ pub second_edge : (raw : List Declared) → raw ≡ four → (fault : BuildFault
 second_edge raw e = only_memory raw to_output refl (subst (λ r. is_new r to_output ≡ true) (sym e) refl)
 
 -- they are those of the running total's flow, which is well formed
-all_checked : IsChecked (more to_output four) total_flow
-all_checked = record { well_formed = totals_are_well_formed.well_formed.flow; value = refl }
+all_checked : IsChecked (expand (more to_output four)) total_flow
+all_checked = checked-whole (more to_output four) total_flow (refl, (refl, (refl, (refl, (refl, tt))))) totals_are_well_formed.well_formed.flow refl
 
 pub built : (raw all : List Declared) → raw ≡ four → all ≡ more to_output raw → (result : Result Dataflow BuildFault)
-    → MatchResult result (IsChecked all) (IfBroken (IsFirstBroken all)) → MatchResult result (λ flow. flow ≡ total_flow) (λ fault. fault ≡ NoMemory)
-built raw all a b (Ok flow) x = x.value ∙ ap flow_of_declarations (b ∙ ap (more to_output) a)
+    → MatchResult result (IsChecked (expand all)) (IfBroken (IsFirstBroken (expand all))) → MatchResult result (λ flow. flow ≡ total_flow) (λ fault. fault ≡ NoMemory)
+built raw all a b (Ok flow) x = x.value ∙ ap (λ ds. flow_of_declarations (expand ds)) (b ∙ ap (more to_output) a)
 built raw all a b (Err BadName) x = absurd x
 built raw all a b (Err NameTaken) x = absurd x
-built raw all a b (Err (Broken refusal)) x = absurd (checked_or_refused all total_flow refusal (subst (λ r. IsChecked r total_flow) (sym (b ∙ ap (more to_output) a)) all_checked) x)
+built raw all a b (Err (Broken refusal)) x = absurd (checked_or_refused (expand all) total_flow refusal (subst (λ r. IsChecked (expand r) total_flow) (sym (b ∙ ap (more to_output) a)) all_checked) x)
 built raw all a b (Err NoMemory) x = refl

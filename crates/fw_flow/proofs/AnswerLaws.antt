@@ -13,16 +13,16 @@ use Rattle.fw_flow.specs.Kind.{Kind, RawKind}
 use Rattle.fw_flow.specs.declared.kind.Kind.TheVariants.{Input, OutputEpoch, OutputNumber, Concat, Join, Regroup}
 use Rattle.fw_flow.specs.declared.kind.Policy.{Policy}
 use Rattle.fw_flow.specs.declared.kind.Policy.TheVariants as policy
-use Rattle.fw_flow.specs.declared.raw.Declaration.{Declaration}
+use Rattle.fw_flow.specs.Declaring.{Declaration}
 use Rattle.fw_flow.specs.declared.raw.Declaration.TheVariants.{Loop as ALoop, Node as ANode, Edge as AnEdge}
-use Rattle.fw_flow.specs.declared.raw.Declared.{Declared}
-use Rattle.fw_flow.specs.Check.{are_names_declared, IsWithinLimitsAfter, NamesTheDeclared, HasItsDegrees, JoinsDomains, AreWalksRight, IsWalkWrong, HasAllowedPolicy, StaysWithinLimits, HasNodeOf, all_lines, loop_lines, node_lines, edge_lines, HoldsBelow, IsFirstBreak, KeepsRule, IsBroken, rules, later_rules, IsFirstBrokenOf, IsFirstBroken, IsChecked}
+use Rattle.fw_flow.specs.Declaring.{Declared}
+use Rattle.fw_flow.specs.Check.{are_names_declared, IsWithinLimitsAfter, NamesTheDeclared, HasItsDegrees, JoinsDomains, AreWalksRight, IsWalkWrong, HasAllowedPolicy, StaysWithinLimits, HasNodeOf, all_lines, loop_lines, node_lines, edge_lines, HoldsBelow, IsFirstBreak, KeepsRule, IsBroken, rules, later_rules, IsFirstBrokenOf, IsFirstBroken, IsChecked, IsSplitNumber}
 use Rattle.fw_flow.specs.Dataflow.{Dataflow, ends_within, kind_of, policy_of, sender, receiver, in_edges, out_edges, domain_of, out_domain_of, is_input_kind, is_output_kind}
 use Rattle.fw_flow.specs.Raw.{names_of, loop_names, node_names, edge_names, flow_of_declarations}
 use Rattle.fw_flow.specs.Depths.{depth_of, depth_graph, ReturningPath}
 use Rattle.fw_flow.specs.Walks.{IsPath}
 use Rattle.fw_flow.specs.WellFormed.{HasShortChain, IsInDegree, IsOutDegree, IsPolicyAllowed, IsGroupSize, may_keep_nothing}
-use Rattle.fw_flow.proofs.Checks.{both_declared, length-edge_lines, IsWellFormed-from_rules}
+use Rattle.fw_flow.proofs.Checks.{both_declared, length-edge_lines, IsWellFormed-from_rules, numbers-within}
 use Rattle.fw_flow.proofs.Depths.{no_return-right, return-wrong}
 use Rattle.fw_flow.proofs.Reach.{reach, Path-from_reach, reach-from_Path, find_below}
 
@@ -103,11 +103,15 @@ decided_group : (kind : RawKind) → Decided (IsGroupSize kind)
 decided_group (Regroup n) = decided_both (1 ≤ n) (n < 2 ^ 32) (decided_le 1 n) (decided_lt n (2 ^ 32))
 decided_group kind = inl tt
 
+decided_split : (split : Option ℕ) → Decided (IsSplitNumber split)
+decided_split None = inl tt
+decided_split (Some n) = decided_both (2 ≤ n) (n ≤ 64) (decided_le 2 n) (decided_le n 64)
+
 decided_limits : (before : List Declared) (d : Declaration) → Decided (IsWithinLimitsAfter before d)
 decided_limits before (ALoop name max parent) =
     decided_three (length (loop_names before) < 64) (1 ≤ max) (max ≤ 1024) (decided_lt (length (loop_names before)) 64) (decided_le 1 max) (decided_le max 1024)
-decided_limits before (ANode name kind p) =
-    decided_both (length (node_names before) < 256) (IsGroupSize kind) (decided_lt (length (node_names before)) 256) (decided_group kind)
+decided_limits before (ANode name kind p split part) =
+    decided_three (length (node_names before) < 256) (IsGroupSize kind) (IsSplitNumber split) (decided_lt (length (node_names before)) 256) (decided_group kind) (decided_split split)
 decided_limits before (AnEdge name from to) = decided_lt (length (edge_names before)) 512
 
 -- ---- the first place at which a rule is broken
@@ -270,6 +274,6 @@ some_answer raw = elim (rules_answer raw) [
   | inl all ↦
       let later = all.1 in
       let wf = IsWellFormed-from_rules raw all.0 later.0 later.1.0 later.1.1.0 later.1.1.1.0 later.1.1.1.1.0 later.1.1.1.1.1.0 later.1.1.1.1.1.1.0 in
-      inl (flow_of_declarations raw, record { well_formed = wf; value = refl })
+      inl (flow_of_declarations raw, record { well_formed = wf; split_numbers = numbers-within raw later.1.1.1.1.1.0; value = refl })
   | inr refused ↦ inr refused
 ]

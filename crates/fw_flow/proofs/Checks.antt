@@ -1,9 +1,9 @@
 -- The rules of `Flow::check` against well-formedness: declarations that break one are not well formed, and those that break none are.
-use Rattle.std.proofs.Common.{◌≡◌, ◌⊎◌, ◌↔◌, inl, inr, ℕ, suc, ◌+◌, ◌<◌, ◌≤◌, Bool, true, false, not, ◌||◌, cond, List, [], ◌∷◌, length, map, take, Option, Some, None, refl, sym, ap, ◌∙◌, subst, arith, slice_get, IfSome}
+use Rattle.std.proofs.Common.{◌≡◌, ◌⊎◌, ◌↔◌, inl, inr, ℕ, zero, suc, ◌+◌, ◌<◌, ◌≤◌, Bool, true, false, not, ◌||◌, cond, List, [], ◌∷◌, length, map, take, Option, Some, None, refl, sym, ap, ◌∙◌, subst, arith, slice_get, IfSome}
 use Rattle.std.proofs.lemmas.Bool.{and_from, and_parts, false≢true, cases_lt}
 use Rattle.std.proofs.lemmas.List.{length-map}
 use Rattle.std.proofs.lemmas.Option.{same_Some, slice_get_within, get_or_from_slice_get}
-use Rattle.std.specs.List.{flat_map}
+use Rattle.std.specs.List.{AllByRecursion, flat_map}
 use Rattle.std.specs.Option.{option_map_or}
 use Rattle.std.specs.Prelude.{option_map}
 use Rattle.fw_lines.specs.declared.refusal.Code.{Code}
@@ -13,11 +13,12 @@ use Rattle.fw_flow.specs.declared.kind.Policy.{Policy}
 use Rattle.fw_flow.specs.declared.node.Loop.{Loop}
 use Rattle.fw_flow.specs.declared.node.Node.{Node}
 use Rattle.fw_flow.specs.declared.node.Edge.{Edge}
-use Rattle.fw_flow.specs.declared.raw.Declaration.{Declaration}
+use Rattle.fw_flow.specs.Declaring.{Declaration}
 use Rattle.fw_flow.specs.declared.raw.Declaration.TheVariants.{Loop as ALoop, Node as ANode, Edge as AnEdge}
-use Rattle.fw_flow.specs.declared.raw.Declared.{Declared}
+use Rattle.fw_flow.specs.Declaring.{Declared}
 use Rattle.fw_flow.specs.Kind.{RawKind, loop_of_kind}
-use Rattle.fw_flow.specs.Check.{are_names_declared, NamesTheDeclared, HasItsDegrees, JoinsDomains, HasAllowedPolicy, IsWithinLimitsAfter, StaysWithinLimits, all_lines, loop_lines, node_lines, edge_lines, HoldsBelow, IsFirstBreak, KeepsRule, IsBroken, rules, IsFirstBrokenOf, IsFirstBroken, IsChecked}
+use Rattle.fw_flow.specs.Check.{are_names_declared, NamesTheDeclared, HasItsDegrees, JoinsDomains, HasAllowedPolicy, IsWithinLimitsAfter, StaysWithinLimits, all_lines, loop_lines, node_lines, edge_lines, HoldsBelow, IsFirstBreak, KeepsRule, IsBroken, rules, IsFirstBrokenOf, IsFirstBroken, IsChecked, HasSplitNumber}
+use Rattle.fw_flow.specs.declared.key_part.KeyPart.{KeyPart}
 use Rattle.fw_flow.specs.Dataflow.{Dataflow, idle_node, kind_of, sender, receiver, max_of, declared_parent}
 use Rattle.std.specs.Str.{bytes_eq}
 use Rattle.fw_lemmas.proofs.Numbers.{below_step}
@@ -31,7 +32,7 @@ use Rattle.fw_flow.proofs.Givers.{GivesOne, giver_of, slice_get-given, length-gi
 
 loop_part : (loops : List (List ℕ)) (line : ℕ) (d : Declaration) → (loop_in loops (record { line = line; declaration = d }) ≡ []) ⊎ ((a : Loop) × (loop_in loops (record { line = line; declaration = d }) ≡ a ∷ []))
 loop_part loops line (ALoop name max parent) = inr (record { name = name; max = max; parent = option_map (place_or_end loops) parent }, refl)
-loop_part loops line (ANode name kind policy) = inl refl
+loop_part loops line (ANode name kind policy split part) = inl refl
 loop_part loops line (AnEdge name s r) = inl refl
 
 pub GivesOne-loop_in : (loops : List (List ℕ)) → GivesOne (loop_in loops)
@@ -39,7 +40,7 @@ GivesOne-loop_in loops d = loop_part loops d.line d.declaration
 
 node_part : (loops : List (List ℕ)) (line : ℕ) (d : Declaration) → (node_in loops (record { line = line; declaration = d }) ≡ []) ⊎ ((a : Node) × (node_in loops (record { line = line; declaration = d }) ≡ a ∷ []))
 node_part loops line (ALoop name max parent) = inl refl
-node_part loops line (ANode name kind policy) = inr (record { name = name; kind = resolved_kind loops kind; policy = policy; part = None }, refl)
+node_part loops line (ANode name kind policy split part) = inr (record { name = name; kind = resolved_kind loops kind; policy = policy; part = part }, refl)
 node_part loops line (AnEdge name s r) = inl refl
 
 pub GivesOne-node_in : (loops : List (List ℕ)) → GivesOne (node_in loops)
@@ -47,7 +48,7 @@ GivesOne-node_in loops d = node_part loops d.line d.declaration
 
 edge_part : (nodes : List (List ℕ)) (line : ℕ) (d : Declaration) → (edge_in nodes (record { line = line; declaration = d }) ≡ []) ⊎ ((a : Edge) × (edge_in nodes (record { line = line; declaration = d }) ≡ a ∷ []))
 edge_part nodes line (ALoop name max parent) = inl refl
-edge_part nodes line (ANode name kind policy) = inl refl
+edge_part nodes line (ANode name kind policy split part) = inl refl
 edge_part nodes line (AnEdge name s r) = inr (record { name = name; sender = place_or_end nodes s; receiver = place_or_end nodes r }, refl)
 
 pub GivesOne-edge_in : (nodes : List (List ℕ)) → GivesOne (edge_in nodes)
@@ -57,17 +58,17 @@ GivesOne-edge_in nodes d = edge_part nodes d.line d.declaration
 
 loop_name_count : (loops : List (List ℕ)) (line : ℕ) (d : Declaration) → length (loop_in loops (record { line = line; declaration = d })) ≡ length (loop_name (record { line = line; declaration = d }))
 loop_name_count loops line (ALoop name max parent) = refl
-loop_name_count loops line (ANode name kind policy) = refl
+loop_name_count loops line (ANode name kind policy split part) = refl
 loop_name_count loops line (AnEdge name s r) = refl
 
 node_name_count : (loops : List (List ℕ)) (line : ℕ) (d : Declaration) → length (node_in loops (record { line = line; declaration = d })) ≡ length (node_name (record { line = line; declaration = d }))
 node_name_count loops line (ALoop name max parent) = refl
-node_name_count loops line (ANode name kind policy) = refl
+node_name_count loops line (ANode name kind policy split part) = refl
 node_name_count loops line (AnEdge name s r) = refl
 
 edge_name_count : (nodes : List (List ℕ)) (line : ℕ) (d : Declaration) → length (edge_in nodes (record { line = line; declaration = d })) ≡ length (edge_name (record { line = line; declaration = d }))
 edge_name_count nodes line (ALoop name max parent) = refl
-edge_name_count nodes line (ANode name kind policy) = refl
+edge_name_count nodes line (ANode name kind policy split part) = refl
 edge_name_count nodes line (AnEdge name s r) = refl
 
 pub length-loops : (loops : List (List ℕ)) (raw : List Declared) → length (flat_map (loop_in loops) raw) ≡ length (loop_names raw)
@@ -160,14 +161,14 @@ record NodePlace (raw : List Declared) (name : List ℕ) (kind : RawKind) (befor
   below : length (node_names before) < length (flow_of_declarations raw).nodes
   is_kind : kind_of (flow_of_declarations raw) (length (node_names before)) ≡ resolved_kind (loop_names raw) kind
 
-node_place : (raw : List Declared) (i line : ℕ) (name : List ℕ) (kind : RawKind) (policy : Policy)
-    → slice_get raw i ≡ Some (record { line = line; declaration = ANode name kind policy }) → NodePlace raw name kind (take i raw)
-node_place raw i line name kind policy there =
+node_place : (raw : List Declared) (i line : ℕ) (name : List ℕ) (kind : RawKind) (policy : Policy) (split : Option ℕ) (part : Option KeyPart)
+    → slice_get raw i ≡ Some (record { line = line; declaration = ANode name kind policy split part }) → NodePlace raw name kind (take i raw)
+node_place raw i line name kind policy split part there =
     let loops = loop_names raw in
-    let node : Node = record { name = name; kind = resolved_kind loops kind; policy = policy; part = None } in
+    let node : Node = record { name = name; kind = resolved_kind loops kind; policy = policy; part = part } in
     let count = length-nodes loops (take i raw) in
     let given = subst (λ n. slice_get (flat_map (node_in loops) raw) n ≡ Some node) count
-    (slice_get-given (node_in loops) (GivesOne-node_in loops) raw i (record { line = line; declaration = ANode name kind policy }) node there refl) in
+    (slice_get-given (node_in loops) (GivesOne-node_in loops) raw i (record { line = line; declaration = ANode name kind policy split part }) node there refl) in
     record {
       below = slice_get_within (flow_of_declarations raw).nodes (length (node_names (take i raw))) node given;
       is_kind = kind_of-given (flow_of_declarations raw) (length (node_names (take i raw))) node given;
@@ -221,8 +222,8 @@ names_declared raw wf i line (ALoop name max parent) there =
     let at = loop_place raw i line name max parent there in
     (place_declared (flow_of_declarations raw) (loop_names raw) parent (length-loops (loop_names raw) raw)).0
     (subst (λ o. IfSome o (λ k. k < length (flow_of_declarations raw).loops)) at.is_parent (wf.parents_declared (length (loop_names (take i raw))) at.below))
-names_declared raw wf i line (ANode name kind policy) there =
-    let at = node_place raw i line name kind policy there in
+names_declared raw wf i line (ANode name kind policy split part) there =
+    let at = node_place raw i line name kind policy split part there in
     (loop_declared (flow_of_declarations raw) (loop_names raw) kind (length-loops (loop_names raw) raw)).0
     (subst (IsLoopDeclared (flow_of_declarations raw)) at.is_kind (wf.loops_declared (length (node_names (take i raw))) at.below))
 names_declared raw wf i line (AnEdge name s r) there =
@@ -236,15 +237,15 @@ names_declared raw wf i line (AnEdge name s r) there =
     (has_name-from_below (node_names raw) r (omega (arith, count, to, at.is_receiver)))
 
 within_limits : (raw : List Declared) → IsWithinLimits (flow_of_declarations raw) → (i line : ℕ) (d : Declaration)
-    → slice_get raw i ≡ Some (record { line = line; declaration = d }) → IsWithinLimitsAfter (take i raw) d
-within_limits raw limits i line (ALoop name max parent) there =
+    → slice_get raw i ≡ Some (record { line = line; declaration = d }) → HasSplitNumber d → IsWithinLimitsAfter (take i raw) d
+within_limits raw limits i line (ALoop name max parent) there number =
     let at = loop_place raw i line name max parent there in
     let bounds = limits.counters (length (loop_names (take i raw))) at.below in
     (omega (arith, limits.loops, at.below), omega (arith, bounds.0, at.is_max), omega (arith, bounds.1, at.is_max))
-within_limits raw limits i line (ANode name kind policy) there =
-    let at = node_place raw i line name kind policy there in
-    (omega (arith, limits.nodes, at.below), (IsGroupSize-map (place_or_end (loop_names raw)) kind).0 (subst IsGroupSize at.is_kind (limits.groups (length (node_names (take i raw))) at.below)))
-within_limits raw limits i line (AnEdge name s r) there =
+within_limits raw limits i line (ANode name kind policy split part) there number =
+    let at = node_place raw i line name kind policy split part there in
+    (omega (arith, limits.nodes, at.below), (IsGroupSize-map (place_or_end (loop_names raw)) kind).0 (subst IsGroupSize at.is_kind (limits.groups (length (node_names (take i raw))) at.below)), number)
+within_limits raw limits i line (AnEdge name s r) there number =
     let at = edge_place raw i line name s r there in
     omega (arith, limits.edges, at.below)
 
@@ -252,7 +253,7 @@ within_limits raw limits i line (AnEdge name s r) there =
 
 node_named : (raw : List Declared) (line : ℕ) (d : Declaration) (part : Node) → node_in (loop_names raw) (record { line = line; declaration = d }) ≡ part ∷ []
     → are_names_declared (names_of raw) d ≡ true → IsLoopDeclared (flow_of_declarations raw) part.kind
-node_named raw line (ANode name kind policy) part gives h =
+node_named raw line (ANode name kind policy split keys) part gives h =
     let same : resolved_kind (loop_names raw) kind ≡ part.kind = cc in
     subst (IsLoopDeclared (flow_of_declarations raw)) same ((loop_declared (flow_of_declarations raw) (loop_names raw) kind (length-loops (loop_names raw) raw)).1 h)
 node_named raw line d part gives h = absurd (cc)
@@ -276,7 +277,7 @@ edge_named raw line d part gives h = absurd (cc)
 
 node_within : (loops : List (List ℕ)) (before : List Declared) (line : ℕ) (d : Declaration) (part : Node) → node_in loops (record { line = line; declaration = d }) ≡ part ∷ []
     → IsWithinLimitsAfter before d → (length (flat_map (node_in loops) before) < 256) × IsGroupSize part.kind
-node_within loops before line (ANode name kind policy) part gives h =
+node_within loops before line (ANode name kind policy split keys) part gives h =
     let same : resolved_kind loops kind ≡ part.kind = cc in
     (omega (arith, length-nodes loops before, h.0), subst IsGroupSize same ((IsGroupSize-map (place_or_end loops) kind).1 h.1))
 node_within loops before line d part gives h = absurd (cc)
@@ -378,29 +379,50 @@ IsWellFormed-from_rules raw names chains degrees domains walks policies limits b
       output = borders.1;
     }
 
+-- the number of a declaration is in range where the declaration is within the limits
+number-within : (before : List Declared) (d : Declaration) → IsWithinLimitsAfter before d → HasSplitNumber d
+number-within before (ALoop name max parent) h = tt
+number-within before (ANode name kind policy split part) h = h.2
+number-within before (AnEdge name s r) h = tt
+
+each-where : {A : Type 0} (P : A → Type 0) (xs : List A) → ((i : ℕ) (x : A) → slice_get xs i ≡ Some x → P x) → AllByRecursion P xs
+each-where P [] h = tt
+each-where P (x ∷ xs) h = (h 0 x refl, each-where P xs (λ i y there. h (suc i) y there))
+
+-- declarations within the limits have numbers in range
+pub numbers-within : (raw : List Declared) → KeepsRule raw F8 → AllByRecursion (λ (d : Declared). HasSplitNumber d.declaration) raw
+numbers-within raw h = each-where (λ (d : Declared). HasSplitNumber d.declaration) raw (λ i d there. number-within (take i raw) d.declaration (limits_at raw h i d there))
+
 -- ---- declarations that break a rule are not
+
+each-got : {A : Type 0} (P : A → Type 0) (xs : List A) (i : ℕ) (x : A) → slice_get xs i ≡ Some x → AllByRecursion P xs → P x
+each-got P [] i x there a = absurd (cc)
+each-got P (y ∷ ys) zero x there a = subst P (same_Some y x there) a.0
+each-got P (y ∷ ys) (suc i) x there a = each-got P ys i x there a.1
 
 names_rule_at : (raw : List Declared) → IsWellFormed (flow_of_declarations raw) → (i : ℕ) (o : Option Declared) → slice_get raw i ≡ o
     → IfSome o (λ (d : Declared). are_names_declared (names_of raw) d.declaration ≡ true)
 names_rule_at raw wf i None there = tt
 names_rule_at raw wf i (Some d) there = names_declared raw wf i d.line d.declaration there
 
-limits_rule_at : (raw : List Declared) → IsWellFormed (flow_of_declarations raw) → (i : ℕ) (o : Option Declared) → slice_get raw i ≡ o
-    → IfSome o (λ (d : Declared). IsWithinLimitsAfter (take i raw) d.declaration)
-limits_rule_at raw wf i None there = tt
-limits_rule_at raw wf i (Some d) there = within_limits raw wf.limits i d.line d.declaration there
+limits_rule_at : (raw : List Declared) → IsWellFormed (flow_of_declarations raw) → AllByRecursion (λ (d : Declared). HasSplitNumber d.declaration) raw
+    → (i : ℕ) (o : Option Declared) → slice_get raw i ≡ o → IfSome o (λ (d : Declared). IsWithinLimitsAfter (take i raw) d.declaration)
+limits_rule_at raw wf numbers i None there = tt
+limits_rule_at raw wf numbers i (Some d) there =
+    within_limits raw wf.limits i d.line d.declaration there (each-got (λ (x : Declared). HasSplitNumber x.declaration) raw i d there numbers)
 
--- each rule holds of a well-formed flow
-pub KeepsRule-from_IsWellFormed : (raw : List Declared) → IsWellFormed (flow_of_declarations raw) → (code : Code) → KeepsRule raw code
-KeepsRule-from_IsWellFormed raw wf F3 = λ i lt. names_rule_at raw wf i (slice_get raw i) refl
-KeepsRule-from_IsWellFormed raw wf F4 = λ p lt. (wf.in_degrees p (omega (arith, length-node_lines raw)), wf.out_degrees p (omega (arith, length-node_lines raw)))
-KeepsRule-from_IsWellFormed raw wf F5 = λ e lt. wf.domains e (omega (arith, length-edge_lines raw))
-KeepsRule-from_IsWellFormed raw wf F6 = record { in_loops = wf.in_loops; fed_back = wf.fed_back }
-KeepsRule-from_IsWellFormed raw wf F7 = λ p lt. wf.policies p (omega (arith, length-node_lines raw))
-KeepsRule-from_IsWellFormed raw wf F8 = λ i lt. limits_rule_at raw wf i (slice_get raw i) refl
-KeepsRule-from_IsWellFormed raw wf F9 = (wf.input, wf.output)
-KeepsRule-from_IsWellFormed raw wf F12 = λ l lt. wf.chains l (omega (arith, length-loop_lines raw))
-KeepsRule-from_IsWellFormed raw wf code = tt
+-- each rule holds of a well-formed flow whose split numbers are in range
+pub KeepsRule-from_IsWellFormed : (raw : List Declared) → IsWellFormed (flow_of_declarations raw) → AllByRecursion (λ (d : Declared). HasSplitNumber d.declaration) raw
+    → (code : Code) → KeepsRule raw code
+KeepsRule-from_IsWellFormed raw wf numbers F3 = λ i lt. names_rule_at raw wf i (slice_get raw i) refl
+KeepsRule-from_IsWellFormed raw wf numbers F4 = λ p lt. (wf.in_degrees p (omega (arith, length-node_lines raw)), wf.out_degrees p (omega (arith, length-node_lines raw)))
+KeepsRule-from_IsWellFormed raw wf numbers F5 = λ e lt. wf.domains e (omega (arith, length-edge_lines raw))
+KeepsRule-from_IsWellFormed raw wf numbers F6 = record { in_loops = wf.in_loops; fed_back = wf.fed_back }
+KeepsRule-from_IsWellFormed raw wf numbers F7 = λ p lt. wf.policies p (omega (arith, length-node_lines raw))
+KeepsRule-from_IsWellFormed raw wf numbers F8 = λ i lt. limits_rule_at raw wf numbers i (slice_get raw i) refl
+KeepsRule-from_IsWellFormed raw wf numbers F9 = (wf.input, wf.output)
+KeepsRule-from_IsWellFormed raw wf numbers F12 = λ l lt. wf.chains l (omega (arith, length-loop_lines raw))
+KeepsRule-from_IsWellFormed raw wf numbers code = tt
 
 first_break-false : (Rule : ℕ → Type 0) (lines : List ℕ) (line : ℕ) → IsFirstBreak Rule lines line → HoldsBelow Rule (length lines) → ⊥
 first_break-false Rule lines line first holds = first.broken (holds first.place (slice_get_within lines first.place line first.there))
@@ -454,7 +476,7 @@ broken_of (code ∷ codes) raw r (inr later) = broken_of codes raw r later.1
 -- declarations of a well-formed flow are not refused
 pub checked_or_refused : (raw : List Declared) (flow : Dataflow) (r : Refusal) → IsChecked raw flow → IsFirstBroken raw r → ⊥
 checked_or_refused raw flow r checked first =
-    broken_or_holds raw r.code r.line (broken_of rules raw r first) (KeepsRule-from_IsWellFormed raw checked.well_formed r.code)
+    broken_or_holds raw r.code r.line (broken_of rules raw r first) (KeepsRule-from_IsWellFormed raw checked.well_formed checked.split_numbers r.code)
 
 -- declarations are those of one dataflow
 pub one_value : (raw : List Declared) (flow other : Dataflow) → IsChecked raw flow → IsChecked raw other → flow ≡ other

@@ -1,7 +1,7 @@
 -- A draft and the flow of its declarations: what the tests of the draft say of the rules.
-use Rattle.std.proofs.Common.{◌≡◌, inr, ◌↔◌, ℕ, ◌<◌, ◌^◌, Bool, true, false, List, length, map, Option, Some, None, refl, sym, ap, ◌∙◌, subst, arith, get_or, IsNone}
-use Rattle.std.proofs.lemmas.Bool.{false≢true, true≢false}
-use Rattle.std.proofs.lemmas.List.{length-map, get_or-map}
+use Rattle.std.proofs.Common.{[], ◌∷◌, ◌++◌, ◌≡◌, inl, inr, ◌↔◌, ℕ, ◌+◌, ◌<◌, ◌^◌, Bool, true, false, List, length, length-append, map, Option, Some, None, refl, sym, ap, ◌∙◌, subst, arith, get_or, IsNone}
+use Rattle.std.proofs.lemmas.Bool.{cases_lt, false≢true, true≢false}
+use Rattle.std.proofs.lemmas.List.{get_or_append_left, get_or_push, length-map, get_or-map}
 use Rattle.std.specs.Prelude.{Result, Ok, Err, IfOk}
 use Rattle.std.specs.Bool.{OnTrue, OnFalse}
 use Rattle.std.specs.List.{IsDistinct}
@@ -20,20 +20,23 @@ use Rattle.fw_flow.specs.declared.node.Node.{Node}
 use Rattle.fw_flow.specs.declared.node.Edge.{Edge}
 use Rattle.fw_flow.specs.declared.parts.Parts.{Parts}
 use Rattle.fw_flow.specs.declared.draft.Draft.{Draft}
-use Rattle.fw_flow.specs.declared.raw.Declaration.{Declaration}
+use Rattle.fw_flow.specs.Declaring.{Declaration}
 use Rattle.fw_flow.specs.declared.raw.Declaration.TheVariants.{Loop as ALoop, Node as ANode, Edge as AnEdge}
-use Rattle.fw_flow.specs.declared.raw.Declared.{Declared}
+use Rattle.fw_flow.specs.Declaring.{Declared}
 use Rattle.fw_flow.specs.declared.raw.NameSpaces.{NameSpaces}
 use Rattle.fw_flow.specs.declared.walks.Link.{Link}
 use Rattle.fw_flow.specs.Check.{HoldsBelow, IsFirstBreak, IsFirstBreakIfAny, HasItsDegrees, JoinsDomains, HasAllowedPolicy, AreWalksRight, IsWalkWrong, HasBorders, loop_lines, node_lines, edge_lines, KeepsRule, later_rules, IsFirstBrokenOf, IsFirstBroken, IsChecked}
-use Rattle.fw_flow.specs.Dataflow.{Dataflow, kind_of, in_edges, out_edges, edges_into, edges_from}
+use Rattle.fw_time.specs.declared.stamp.Bounds.{Bounds}
+use Rattle.fw_flow.specs.Dataflow.{Dataflow, bounds_of, kind_of, in_edges, out_edges, edges_into, edges_from}
 use Rattle.fw_flow.specs.Draft.{IsDraftOf, LaterRulesHold}
-use Rattle.fw_flow.specs.Flow.{edges_at, IsIndexed}
+use Rattle.fw_flow.specs.Flow.{edges_at, AreBoundsOf, IsIndexed}
 use Rattle.fw_flow.specs.Parts.{ArePartsOf, places_from}
 use Rattle.fw_flow.specs.Raw.{names_of, loop_names, node_names, edge_names, loop_name, node_name, edge_name, loop_in, node_in, edge_in, flow_of_declarations}
+use Rattle.fw_flow.specs.PlainNames.{ArePlain, HasPlainEdges, HasPlainNodes}
+use Rattle.fw_flow.proofs.PlainNameLaws.{plain-edges, plain-nodes}
 use Rattle.fw_flow.specs.Walks.{AreWithin, IsMadeOf, link_at, link_of, listed_kind}
 use Rattle.fw_flow.specs.WellFormed.{HasShortChain, IsInDegree, IsOutDegree, IsWellFormed}
-use Rattle.fw_flow.proofs.Checks.{GivesOne-loop_in, GivesOne-node_in, GivesOne-edge_in, length-loops, length-nodes, length-loop_lines, length-node_lines, length-edge_lines, both_declared, IsWellFormed-from_rules}
+use Rattle.fw_flow.proofs.Checks.{GivesOne-loop_in, GivesOne-node_in, GivesOne-edge_in, length-loops, length-nodes, length-loop_lines, length-node_lines, length-edge_lines, both_declared, IsWellFormed-from_rules, numbers-within}
 use Rattle.fw_flow.proofs.Ends.{places_from-receivers, places_from-senders}
 use Rattle.fw_flow.proofs.Flows.{sender-of_link, receiver-of_link, kinds_of}
 use Rattle.fw_flow.proofs.Givers.{length-given_le, map-flat_map}
@@ -288,24 +291,24 @@ flow_of_draft draft raw of_draft = λ i. record {
 pub IsChecked-from_draft : (draft : Draft) (raw : List Declared) → IsDraftOf draft raw → KeepsRule raw F3 → LaterRulesHold raw → IsChecked raw (drafted draft)
 IsChecked-from_draft draft raw of_draft names all =
     let wf = IsWellFormed-from_rules raw names all.chains all.degrees all.domains all.walks all.policies all.limits all.borders in
-    record { well_formed = wf; value = flow_of_draft draft raw of_draft }
+    record { well_formed = wf; split_numbers = numbers-within raw all.limits; value = flow_of_draft draft raw of_draft }
 
 loop_named : (loops : List (List ℕ)) (line : ℕ) (d : Declaration)
     → map (λ (l : Loop). l.name) (loop_in loops (record { line = line; declaration = d })) ≡ loop_name (record { line = line; declaration = d })
 loop_named loops line (ALoop name max parent) = refl
-loop_named loops line (ANode name kind policy) = refl
+loop_named loops line (ANode name kind policy split part) = refl
 loop_named loops line (AnEdge name s r) = refl
 
 node_named : (loops : List (List ℕ)) (line : ℕ) (d : Declaration)
     → map (λ (n : Node). n.name) (node_in loops (record { line = line; declaration = d })) ≡ node_name (record { line = line; declaration = d })
 node_named loops line (ALoop name max parent) = refl
-node_named loops line (ANode name kind policy) = refl
+node_named loops line (ANode name kind policy split part) = refl
 node_named loops line (AnEdge name s r) = refl
 
 edge_named : (nodes : List (List ℕ)) (line : ℕ) (d : Declaration)
     → map (λ (e : Edge). e.name) (edge_in nodes (record { line = line; declaration = d })) ≡ edge_name (record { line = line; declaration = d })
 edge_named nodes line (ALoop name max parent) = refl
-edge_named nodes line (ANode name kind policy) = refl
+edge_named nodes line (ANode name kind policy split part) = refl
 edge_named nodes line (AnEdge name s r) = refl
 
 -- the names of the loops are those that were declared
@@ -319,18 +322,37 @@ names_of_flow raw = (
   sym (map-flat_map (λ (e : Edge). e.name) (edge_in (node_names raw)) edge_name (λ d. edge_named (node_names raw) d.line d.declaration) raw),
 )
 
+-- no bounds are those of no nodes
+AreBoundsOf-none : (flow : Dataflow) (bounds : List Bounds) → bounds ≡ [] → AreBoundsOf flow bounds
+AreBoundsOf-none flow bounds none p unless inside = let few : length bounds ≡ 0 = ap length none in absurd (omega (arith, few, inside))
+
+-- the bounds of the first nodes, and those of the next one
+pub AreBoundsOf-push : (flow : Dataflow) (kept new : List Bounds) (next : Bounds) → new ≡ kept ++ next ∷ [] → next ≡ bounds_of flow (length kept)
+    → AreBoundsOf flow kept → AreBoundsOf flow new
+AreBoundsOf-push flow kept new next is of_next before p unless inside =
+    let long : length new ≡ length kept + 1 = ap length is ∙ length-append kept (next ∷ []) in
+    elim (cases_lt p (length kept)) [
+      | inl old ↦ ap (λ ls. get_or ls p unless) is ∙ get_or_append_left kept (next ∷ []) unless p old ∙ before p unless old
+      | inr last ↦ let same : p ≡ length kept = omega (arith, long, inside, last) in
+          ap (λ ls. get_or ls p unless) is ∙ get_or_push kept next unless p (sym same) ∙ of_next ∙ ap (bounds_of flow) (sym same)
+    ]
+
 -- the flow of a draft that breaks no rule is kept with its names and edges
-pub IsIndexed-from_draft : (draft : Draft) (raw : List Declared) (names : NameSpaces) → names ≡ names_of raw → IsDistinct bytes_eq names.loops → IsDraftOf draft raw
-    → IsChecked raw (drafted draft) → IsIndexed (drafted draft) names.nodes names.edges draft.incoming.items draft.outgoing.items
+pub IsIndexed-from_draft : (draft : Draft) (raw : List Declared) (names : NameSpaces) → names ≡ names_of raw → IsDistinct bytes_eq names.loops → ArePlain raw → IsDraftOf draft raw
+    → IsChecked raw (drafted draft) → (bounds : List Bounds) → bounds ≡ []
+    → IsIndexed (drafted draft) names.nodes names.edges draft.incoming.items draft.outgoing.items bounds
 unfolding in_edges out_edges
-IsIndexed-from_draft draft raw names taken once of_draft checked =
+IsIndexed-from_draft draft raw names taken once plain of_draft checked bounds none =
     let named = names_of_flow raw in
     let same = sym checked.value in
     record {
       well_formed = subst IsWellFormed same checked.well_formed;
       loops_once = subst (IsDistinct bytes_eq) (ap (λ (n : NameSpaces). n.loops) taken ∙ names_of_loops raw ∙ ap (λ (f : Dataflow). map (λ (l : Loop). l.name) f.loops) same) once;
+      plain_nodes = subst HasPlainNodes same (plain-nodes raw plain);
+      plain_edges = subst HasPlainEdges same (plain-edges raw plain);
       names_of_nodes = ap (λ (n : NameSpaces). n.nodes) taken ∙ named.0 ∙ ap (λ (f : Dataflow). map (λ (n : Node). n.name) f.nodes) same;
       names_of_edges = ap (λ (n : NameSpaces). n.edges) taken ∙ named.1 ∙ ap (λ (f : Dataflow). map (λ (e : Edge). e.name) f.edges) same;
       edges_in = of_draft.edges_in;
       edges_out = of_draft.edges_out;
+      bounds_kept = AreBoundsOf-none (drafted draft) bounds none;
     }

@@ -5,10 +5,14 @@ pub mod ByRanks
 pub mod Chains
 pub mod Checks
 pub mod Depths
+pub mod DistinctLaws
 pub mod Drafts
 pub mod EdgeLaws
 pub mod Ends
+pub mod ExpandLaws
+pub mod ExpandNameLaws
 pub mod FlowLaws
+pub mod FullNameLaws
 pub mod Flows
 pub mod Givers
 pub mod Kept
@@ -16,9 +20,11 @@ pub mod KindLaws
 pub mod Marks
 pub mod MessageLaws
 pub mod NameLaws
+pub mod NewLaws
 pub mod Named
 pub mod Parents
 pub mod PickedEdges
+pub mod PlainNameLaws
 pub mod PremiseLaws
 pub mod OutEdgeLaws
 pub mod ProjectionLaws

@@ -7,9 +7,9 @@ use Rattle.fw_lines.specs.declared.refusal.Refusal.{Refusal}
 use Rattle.fw_lines.specs.Spelling.{is_name}
 use Rattle.fw_flow.specs.declared.builder.BuildFault.{BuildFault}
 use Rattle.fw_flow.specs.declared.builder.BuildFault.TheVariants.{BadName, NameTaken, Broken, NoMemory}
-use Rattle.fw_flow.specs.declared.raw.Declaration.{Declaration}
+use Rattle.fw_flow.specs.Declaring.{Declaration}
 use Rattle.fw_flow.specs.declared.raw.Declaration.TheVariants.{Loop, Node, Edge}
-use Rattle.fw_flow.specs.declared.raw.Declared.{Declared}
+use Rattle.fw_flow.specs.Declaring.{Declared}
 use Rattle.fw_flow.specs.Kind.{loop_of_kind}
 use Rattle.fw_flow.specs.Raw.{is_new}
 
@@ -21,7 +21,7 @@ with_declaration raw declaration = raw ++ record { line = length raw + 1; declar
 -- is, of a node that of the loop of its kind, of an edge those of its sender and its receiver
 abbrev pub has_names : Declaration → Bool
 has_names (Loop name max parent) = is_name name && option_map_or is_name parent true
-has_names (Node name kind policy) = is_name name && option_map_or is_name (loop_of_kind kind) true
+has_names (Node name kind policy split part) = is_name name && option_map_or is_name (loop_of_kind kind) true
 has_names (Edge name sender receiver) = is_name name && is_name sender && is_name receiver
 
 -- The builder takes the declaration exactly where its names are names and its own is new, and then has it as its last; else it

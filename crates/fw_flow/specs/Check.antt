@@ -1,14 +1,14 @@
 -- Which declarations are a well-formed dataflow, and which rule others break first.
 use Rattle.std.specs.Prelude.{◌≡◌, ◌⊎◌, ℕ, ◌^◌, ◌<◌, ◌≤◌, Bool, true, ◌&&◌, List, [], ◌∷◌, map, length, take, Option, Some, slice_get, IsTrue, IfSome, MatchOption}
-use Rattle.std.specs.List.{flat_map}
+use Rattle.std.specs.List.{AllByRecursion, flat_map}
 use Rattle.std.specs.Option.{option_map_or}
 use Rattle.fw_lines.specs.declared.refusal.Code.{Code}
 use Rattle.fw_lines.specs.declared.refusal.Code.TheVariants.{F3, F4, F5, F6, F7, F8, F9, F12}
 use Rattle.fw_lines.specs.declared.refusal.Refusal.{Refusal}
 use Rattle.fw_flow.specs.Kind.{Kind, loop_of_kind}
-use Rattle.fw_flow.specs.declared.raw.Declaration.{Declaration}
+use Rattle.fw_flow.specs.Declaring.{Declaration}
 use Rattle.fw_flow.specs.declared.raw.Declaration.TheVariants.{Loop as ALoop, Node as ANode, Edge as AnEdge}
-use Rattle.fw_flow.specs.declared.raw.Declared.{Declared}
+use Rattle.fw_flow.specs.Declaring.{Declared}
 use Rattle.fw_flow.specs.declared.raw.NameSpaces.{NameSpaces}
 use Rattle.fw_flow.specs.Dataflow.{Dataflow, kind_of, policy_of, sender, receiver, in_edges, out_edges, domain_of, out_domain_of, is_input_kind, is_output_kind}
 use Rattle.fw_flow.specs.Names.{has_name}
@@ -22,13 +22,23 @@ use Rattle.fw_flow.specs.WellFormed.{HasShortChain, IsInDegree, IsOutDegree, IsP
 -- receiver of an edge
 abbrev pub are_names_declared : NameSpaces → Declaration → Bool
 are_names_declared names (ALoop name max parent) = option_map_or (λ l. has_name l names.loops) parent true
-are_names_declared names (ANode name kind policy) = option_map_or (λ l. has_name l names.loops) (loop_of_kind kind) true
+are_names_declared names (ANode name kind policy split part) = option_map_or (λ l. has_name l names.loops) (loop_of_kind kind) true
 are_names_declared names (AnEdge name sender receiver) = has_name sender names.nodes && has_name receiver names.nodes
+
+-- a node may be split into so many, where a number is written
+abbrev pub IsSplitNumber : Option ℕ → Type 0
+IsSplitNumber split = IfSome split (λ n. (2 ≤ n) × (n ≤ 64))
+
+-- the number of a declaration that splits a node is in range
+abbrev pub HasSplitNumber : Declaration → Type 0
+HasSplitNumber (ALoop name max parent) = Unit {0}
+HasSplitNumber (ANode name kind policy split part) = IsSplitNumber split
+HasSplitNumber (AnEdge name sender receiver) = Unit {0}
 
 -- after these declarations there is room for one more, and its numbers are in range
 abbrev pub IsWithinLimitsAfter : List Declared → Declaration → Type 0
 IsWithinLimitsAfter before (ALoop name max parent) = (length (loop_names before) < 64) × (1 ≤ max) × (max ≤ 1024)
-IsWithinLimitsAfter before (ANode name kind policy) = (length (node_names before) < 256) × IsGroupSize kind
+IsWithinLimitsAfter before (ANode name kind policy split part) = (length (node_names before) < 256) × IsGroupSize kind × IsSplitNumber split
 IsWithinLimitsAfter before (AnEdge name sender receiver) = length (edge_names before) < 512
 
 -- F3, of the declaration at a place: what it names is declared
@@ -148,7 +158,8 @@ IsFirstBrokenOf (code ∷ codes) raw refusal =
 abbrev pub IsFirstBroken : List Declared → Refusal → Type 0
 IsFirstBroken raw refusal = IsFirstBrokenOf rules raw refusal
 
--- the declarations are those of this dataflow, and it is well formed
+-- the declarations are those of this dataflow, it is well formed, and each number by which a node is split is in range
 pub record IsChecked (raw : List Declared) (flow : Dataflow) : Type 0 where
   pub well_formed : IsWellFormed (flow_of_declarations raw)
+  pub split_numbers : AllByRecursion (λ d. HasSplitNumber d.declaration) raw
   pub value : flow ≡ flow_of_declarations raw

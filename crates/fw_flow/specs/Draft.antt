@@ -2,7 +2,7 @@
 use Rattle.std.specs.Prelude.{◌≡◌, ℕ, List, length, map}
 use Rattle.fw_lines.specs.declared.refusal.Code.TheVariants.{F4, F5, F6, F7, F8, F9, F12}
 use Rattle.fw_flow.specs.declared.draft.Draft.{Draft}
-use Rattle.fw_flow.specs.declared.raw.Declared.{Declared}
+use Rattle.fw_flow.specs.Declaring.{Declared}
 use Rattle.fw_flow.specs.Check.{KeepsRule}
 use Rattle.fw_flow.specs.Dataflow.{edges_into, edges_from}
 use Rattle.fw_flow.specs.Flow.{edges_at}

@@ -17,7 +17,7 @@ abbrev pub is_of_part_if : Option KeyPart → ℕ → Bool
 is_of_part_if None key = true
 is_of_part_if (Some part) key = is_of_part part key
 
--- whether nodes of the kind may be split: what they make of the recs of a key rests on recs of this key alone
+-- whether nodes of the kind may be split, as these four may: what they make of the recs of a key rests on recs of this key alone
 abbrev pub may_split : {L : Type 0} → KindBy L → Bool
 may_split (Distinct within) = true
 may_split (Join within) = true

@@ -4,10 +4,13 @@ pub mod Check
 pub mod Counting
 pub mod CutText
 pub mod Dataflow
+pub mod Declaring
 pub mod Depths
 pub mod DomainText
 pub mod Draft
+pub mod Expand
 pub mod Flow
+pub mod FullNames
 pub mod Kind
 pub mod KeyParts
 pub mod KindText
@@ -15,6 +18,7 @@ pub mod Message
 pub mod Names
 pub mod NodeFunction
 pub mod Parts
+pub mod PlainNames
 pub mod Premises
 pub mod ProjectedStamps
 pub mod Projection

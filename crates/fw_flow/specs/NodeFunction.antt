@@ -96,7 +96,7 @@ sends_of_kind sys Sequence before v =
 sends_of_kind sys kind before v =
     messages_at_some (send_stamp_of_kind sys.flow kind (event_stamp v)) (event_stamp v) (recs_on sys kind before v)
 
--- what an event of node p sends on each of its out-edges, where these are the earlier events of p, the latest first
+-- what an event of node p sends, of which each out-edge carries some or all, where these are the earlier events of p, the latest first
 unfoldable pub sends : System → ℕ → List Event → Event → List Message
 sends sys p before v = sends_of_kind sys (kind_of sys.flow p) before v
 

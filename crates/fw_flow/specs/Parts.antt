@@ -3,7 +3,7 @@ use Rattle.std.specs.Prelude.{◌≡◌, ℕ, ◌==◌, ◌+◌, if◌then◌els
 use Rattle.std.specs.List.{flat_map}
 use Rattle.fw_flow.specs.declared.check.Counts.{Counts}
 use Rattle.fw_flow.specs.declared.parts.Parts.{Parts}
-use Rattle.fw_flow.specs.declared.raw.Declared.{Declared}
+use Rattle.fw_flow.specs.Declaring.{Declared}
 use Rattle.fw_flow.specs.declared.raw.NameSpaces.{NameSpaces}
 use Rattle.fw_flow.specs.Check.{loop_lines, node_lines, edge_lines}
 use Rattle.fw_flow.specs.Raw.{loop_names, node_names, edge_names, loop_in, node_in, edge_in}

@@ -5,9 +5,9 @@ use Rattle.std.specs.Str.{bytes_eq}
 use Rattle.fw_flow.specs.declared.node.Loop.{Loop}
 use Rattle.fw_flow.specs.declared.node.Node.{Node}
 use Rattle.fw_flow.specs.declared.node.Edge.{Edge}
-use Rattle.fw_flow.specs.declared.raw.Declaration.{Declaration}
+use Rattle.fw_flow.specs.Declaring.{Declaration}
 use Rattle.fw_flow.specs.declared.raw.Declaration.TheVariants.{Loop as ALoop, Node as ANode, Edge as AnEdge}
-use Rattle.fw_flow.specs.declared.raw.Declared.{Declared}
+use Rattle.fw_flow.specs.Declaring.{Declared}
 use Rattle.fw_flow.specs.declared.raw.NameSpaces.{NameSpaces}
 use Rattle.fw_flow.specs.Dataflow.{Dataflow}
 use Rattle.fw_flow.specs.Kind.{Kind, RawKind, kind_map}
@@ -19,7 +19,7 @@ loop_name declared = name_in declared.declaration
   where
     name_in : Declaration → List (List ℕ)
     name_in (ALoop name max parent) = name ∷ []
-    name_in (ANode name kind policy) = []
+    name_in (ANode name kind policy split part) = []
     name_in (AnEdge name sender receiver) = []
 
 -- the name of a node that is declared
@@ -28,7 +28,7 @@ node_name declared = name_in declared.declaration
   where
     name_in : Declaration → List (List ℕ)
     name_in (ALoop name max parent) = []
-    name_in (ANode name kind policy) = name ∷ []
+    name_in (ANode name kind policy split part) = name ∷ []
     name_in (AnEdge name sender receiver) = []
 
 -- the name of an edge that is declared
@@ -37,7 +37,7 @@ edge_name declared = name_in declared.declaration
   where
     name_in : Declaration → List (List ℕ)
     name_in (ALoop name max parent) = []
-    name_in (ANode name kind policy) = []
+    name_in (ANode name kind policy split part) = []
     name_in (AnEdge name sender receiver) = name ∷ []
 
 -- the names of the loops, in order
@@ -59,13 +59,13 @@ names_of raw = record { loops = loop_names raw; nodes = node_names raw; edges = 
 -- whether the name of a declaration is not taken in its name space
 abbrev pub is_new_among : NameSpaces → Declaration → Bool
 is_new_among names (ALoop name max parent) = not (has_name name names.loops)
-is_new_among names (ANode name kind policy) = not (has_name name names.nodes)
+is_new_among names (ANode name kind policy split part) = not (has_name name names.nodes)
 is_new_among names (AnEdge name sender receiver) = not (has_name name names.edges)
 
 -- the names with that of a declaration
 abbrev pub with_name : NameSpaces → Declaration → NameSpaces
 with_name names (ALoop name max parent) = record names { loops = names.loops ++ name ∷ [] }
-with_name names (ANode name kind policy) = record names { nodes = names.nodes ++ name ∷ [] }
+with_name names (ANode name kind policy split part) = record names { nodes = names.nodes ++ name ∷ [] }
 with_name names (AnEdge name sender receiver) = record names { edges = names.edges ++ name ∷ [] }
 
 -- whether the name of a declaration is new after these
@@ -91,7 +91,7 @@ loop_in loops declared = the_loop declared.declaration
   where
     the_loop : Declaration → List Loop
     the_loop (ALoop name max parent) = record { name = name; max = max; parent = option_map (place_or_end loops) parent } ∷ []
-    the_loop (ANode name kind policy) = []
+    the_loop (ANode name kind policy split part) = []
     the_loop (AnEdge name sender receiver) = []
 
 -- the node that is declared, if one is, with these names of loops
@@ -100,7 +100,7 @@ node_in loops declared = the_node declared.declaration
   where
     the_node : Declaration → List Node
     the_node (ALoop name max parent) = []
-    the_node (ANode name kind policy) = record { name = name; kind = resolved_kind loops kind; policy = policy; part = None } ∷ []
+    the_node (ANode name kind policy split part) = record { name = name; kind = resolved_kind loops kind; policy = policy; part = part } ∷ []
     the_node (AnEdge name sender receiver) = []
 
 -- the edge that is declared, if one is, with these names of nodes
@@ -109,7 +109,7 @@ edge_in nodes declared = the_edge declared.declaration
   where
     the_edge : Declaration → List Edge
     the_edge (ALoop name max parent) = []
-    the_edge (ANode name kind policy) = []
+    the_edge (ANode name kind policy split part) = []
     the_edge (AnEdge name sender receiver) =
         record { name = name; sender = place_or_end nodes sender; receiver = place_or_end nodes receiver } ∷ []
 

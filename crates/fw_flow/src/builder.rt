@@ -5,6 +5,7 @@ ghost use Rattle.fw_lines.specs.Spelling.{is_name};
 ghost use Rattle.fw_flow.specs.declared.raw.Declaration.TheVariants.{Loop, Node, Edge};
 ghost use Rattle.fw_flow.specs.Builder.{Declares, DeclaresNamed, IsNameOrFault, IfBroken};
 ghost use Rattle.fw_flow.specs.Check.{IsChecked, IsFirstBroken};
+ghost use Rattle.fw_flow.specs.Expand.{expand};
 ghost use Rattle.fw_flow.specs.Kind.{loop_of_kind};
 ghost use Rattle.fw_flow.specs.WellFormed.{IsWellFormed};
 
@@ -65,7 +66,7 @@ pub struct FlowBuilder {
 
 impl Model for FlowBuilder {
     ghost use Rattle.std.specs.Prelude.{List};
-    ghost use Rattle.fw_flow.specs.declared.raw.Declared.{Declared};
+    ghost use Rattle.fw_flow.specs.Declaring.{Declared};
 
     ghost Value = { List Declared };
 
@@ -94,11 +95,33 @@ impl FlowBuilder {
     /// Declares a node, with what it does and how it is restored. Each kind has a word of its own beside this call, as
     /// `FlowBuilder::total`.
     pub fn node(self, name: &str, kind: RawKind, policy: Policy) -> Result<Self, BuildFault>
-        ensures { Declares self (Node name.now kind policy) result }
+        ensures { Declares self (Node name.now kind policy None None) result }
     {
         let name = named(self.alloc, name)?;
         has_loop_named(&kind);
-        self.declare(Declaration::Node { name, kind, policy })
+        self.declare(whole_node(name, kind, policy))
+    }
+
+    /// Declares a node that is split into so many replicas, from 2 to 64: each gets the recs of its part of the keys. Nodes of
+    /// the kinds `distinct`, `join`, `sum` and `total` can be split; at another kind the number has no meaning.
+    pub fn split(
+        self,
+        name: &str,
+        kind: RawKind,
+        policy: Policy,
+        replicas: u64,
+    ) -> Result<Self, BuildFault>
+        ensures { Declares self (Node name.now kind policy (Some replicas) None) result }
+    {
+        let name = named(self.alloc, name)?;
+        has_loop_named(&kind);
+        self.declare(Declaration::Node {
+            name,
+            kind,
+            policy,
+            split: Some(replicas),
+            part: None,
+        })
     }
 
     /// Declares a loop that is in no other, with its greatest counter, from 1 to 1024.
@@ -135,7 +158,7 @@ impl FlowBuilder {
 
     /// The flow of the declarations, or the first rule that they break, as `Flow::check` has it.
     pub fn build(self) -> Result<Flow, BuildFault>
-        ensures checked { MatchResult result (IsChecked self) (IfBroken (IsFirstBroken self)) }
+        ensures checked { MatchResult result (IsChecked (expand self)) (IfBroken (IsFirstBroken (expand self))) }
         ensures well_formed { IfOk result IsWellFormed }
     {
         let FlowBuilder { alloc, raw } = self;
@@ -158,8 +181,21 @@ impl FlowBuilder {
     }
 }
 
+// A node that is not split.
+pub(crate) fn whole_node(name: Name, kind: RawKind, policy: Policy) -> Declaration
+    ensures { result ≡ Node name kind policy None None }
+{
+    Declaration::Node {
+        name,
+        kind,
+        policy,
+        split: None,
+        part: None,
+    }
+}
+
 // The word of the loop that a kind names, if it names one, is a name.
-fn has_loop_named(kind: &RawKind)
+pub(crate) fn has_loop_named(kind: &RawKind)
     ensures { option_map_or is_name (loop_of_kind kind.now) true ≡ true }
 {
     if let Some(name) = kind.the_loop() {

@@ -2,9 +2,9 @@
 ghost use Rattle.std.specs.Prelude.{◌≡◌, ◌↔◌, ℕ, ◌^◌, ◌<◌, List, [], ◌∷◌, ◌++◌, map, length, slice_index, Some, IsTrue, IsNone, IfSome, IfNone, OnOk, IfOk, IfErr};
 ghost use Rattle.std.specs.List.{list_any};
 ghost use Rattle.fw_lines.specs.Faults.{IfRefused};
-ghost use Rattle.fw_flow.specs.declared.raw.Declared.{Declared};
+ghost use Rattle.fw_flow.specs.Declaring as declaring;
 ghost use Rattle.fw_flow.specs.Check as spec;
-ghost use Rattle.fw_flow.specs.Check.{IsWithinLimitsAfter, HasBorders, all_lines, IsFirstBreakIfAny};
+ghost use Rattle.fw_flow.specs.Check.{IsSplitNumber, IsWithinLimitsAfter, HasBorders, all_lines, IsFirstBreakIfAny};
 ghost use Rattle.fw_flow.specs.Dataflow.{Dataflow, domain_of_kind, out_domain_of_kind, is_input_kind, is_output_kind};
 ghost use Rattle.fw_flow.specs.Flow.{edges_at};
 ghost use Rattle.fw_flow.specs.Parts.{AreCountsDeclared, places_from};
@@ -15,7 +15,7 @@ ghost use Rattle.fw_flow.specs.WellFormed.{IsGroupSize, IsInDegree, IsOutDegree,
 use crate::kind::is_chain_short;
 use crate::raw::NameSpaces;
 use crate::walks::Link;
-use crate::{Declaration, Declared, Edge, EdgeId, Kind, Loop, Node, Policy, RawKind};
+use crate::{Declaration, Declared, Edge, EdgeId, FullName, Kind, Loop, Node, Policy, RawKind};
 use fw_lines::{Code, ReadFault, Refusal};
 use std::alloc::{AllocError, Global};
 
@@ -28,6 +28,8 @@ const MAX_EDGES: usize = 512;
 const MAX_COUNTER: u64 = 1024;
 
 const MAX_GROUP: u64 = 4_294_967_295;
+
+const MAX_REPLICAS: u64 = 64;
 
 /// Refuses with the code where there is a line.
 pub(crate) fn refuse(code: Code, line: Option<u32>) -> Result<(), ReadFault>
@@ -42,7 +44,7 @@ pub(crate) fn refuse(code: Code, line: Option<u32>) -> Result<(), ReadFault>
 }
 
 /// The line of the first declaration that names a loop or a node that is not declared.
-pub(crate) fn undeclared_line(names: &NameSpaces, declared: &[Declared]) -> Option<u32>
+pub(crate) fn undeclared_line(names: &NameSpaces, declared: &[Declared<FullName>]) -> Option<u32>
     requires { names.now ≡ names_of declared.now }
     ensures { IsFirstBreakIfAny (spec.NamesTheDeclared declared.now) (all_lines declared.now)
         result }
@@ -56,7 +58,7 @@ pub(crate) fn undeclared_line(names: &NameSpaces, declared: &[Declared]) -> Opti
 }
 
 // Whether what the declaration names is declared.
-fn are_names_declared(names: &NameSpaces, declaration: &Declaration) -> bool
+fn are_names_declared(names: &NameSpaces, declaration: &Declaration<FullName>) -> bool
     ensures { result ≡ spec.are_names_declared names.now declaration.now }
 {
     match declaration {
@@ -197,7 +199,7 @@ fn is_policy_allowed(kind: Kind, policy: Policy) -> bool
 }
 
 /// The line of the first declaration that goes over the limits, or has a number out of range.
-pub(crate) fn limit_line(declared: &[Declared]) -> Option<u32>
+pub(crate) fn limit_line(declared: &[Declared<FullName>]) -> Option<u32>
     ensures { IsFirstBreakIfAny (spec.StaysWithinLimits declared.now) (all_lines declared.now)
         result }
 {
@@ -225,13 +227,13 @@ struct Counts {
 
 impl Counts {
     // The counts with one more declaration, if that is within the limits.
-    fn with(self, declaration: &Declaration) -> Option<Counts>
-        ensures within { IfSome result (λ more. (before : List Declared) → AreCountsDeclared self before
+    fn with(self, declaration: &Declaration<FullName>) -> Option<Counts>
+        ensures within { IfSome result (λ more. (before : List declaring.Declared) → AreCountsDeclared self before
             → IsWithinLimitsAfter before declaration.now) }
-        ensures counts { IfSome result (λ more. (before : List Declared) (line : ℕ)
+        ensures counts { IfSome result (λ more. (before : List declaring.Declared) (line : ℕ)
             → AreCountsDeclared self before → AreCountsDeclared more (before
             ++ record { line = line; declaration = declaration.now } ∷ [])) }
-        ensures over { IfNone result ((before : List Declared) → AreCountsDeclared self before
+        ensures over { IfNone result ((before : List declaring.Declared) → AreCountsDeclared self before
             → IsWithinLimitsAfter before declaration.now → ⊥) }
     {
         match declaration {
@@ -244,8 +246,8 @@ impl Counts {
                     ..self
                 })
             }
-            Declaration::Node { kind, .. } => {
-                if self.nodes >= MAX_NODES || !is_group_size(kind) {
+            Declaration::Node { kind, split, .. } => {
+                if self.nodes >= MAX_NODES || !is_group_size(kind) || !is_split_number(*split) {
                     return None;
                 }
                 Some(Counts {
@@ -263,6 +265,16 @@ impl Counts {
                 })
             }
         }
+    }
+}
+
+// Whether a node may be split into so many, where a number is written.
+fn is_split_number(split: Option<u64>) -> bool
+    ensures { IsTrue result ↔ IsSplitNumber split }
+{
+    match split {
+        Some(number) => (2..=MAX_REPLICAS).contains(&number),
+        None => true,
     }
 }
 

@@ -43,13 +43,13 @@ pub struct Counted {
     pub edge: EdgeId,
     /// Their stamp, in the receiver's domain.
     pub at: Stamp,
-    /// The stamps of the sender's events that they come from.
+    /// Stamps of the sender, each of which sends as one of its events did that they come from.
     pub causes: Causes,
     /// How many they are.
     pub count: u64,
 }
 
-/// Where a node's events are, and where they sent: each in any order.
+/// Where a node's events are, and what it sent, with stamps that send as its events did: each in any order.
 #[derive(Debug, Drop)]
 pub struct Stamps {
     /// What was delivered to it, on its in-edges.

@@ -2,7 +2,7 @@
 ghost use Rattle.std.specs.Prelude.{◌≡◌, ◌^◌, ◌<◌, ◌↔◌, true, false, List, map, length, IsTrue, OnOk, IfOk, IfErr};
 ghost use Rattle.fw_lines.specs.Faults.{IfRefused};
 ghost use Rattle.fw_lines.specs.declared.refusal.Code.TheVariants as code;
-ghost use Rattle.fw_flow.specs.declared.raw.Declared.{Declared};
+ghost use Rattle.fw_flow.specs.Declaring as declaring;
 ghost use Rattle.fw_flow.specs.Check.{all_lines, loop_lines, node_lines, edge_lines, HasItsDegrees, JoinsDomains, AreWalksRight, IsWalkWrong, HasAllowedPolicy, StaysWithinLimits, HasBorders, IsFirstBreakIfAny, KeepsRule, later_rules, IsFirstBrokenOf};
 ghost use Rattle.fw_flow.specs.Draft.{FitsTogether, IsDraftOf, LaterRulesHold};
 ghost use Rattle.fw_flow.specs.Raw.{names_of, flow_of_declarations};
@@ -14,7 +14,7 @@ use crate::check::{
 use crate::parts::Parts;
 use crate::raw::NameSpaces;
 use crate::walks::{Link, are_walks_right};
-use crate::{Declared, EdgeId};
+use crate::{Declared, EdgeId, FullName};
 use fw_lines::{Code, ReadFault};
 use std::alloc::{AllocError, Global};
 
@@ -33,7 +33,7 @@ impl Draft {
     pub(crate) fn of(
         alloc: Global,
         names: &NameSpaces,
-        declared: Vec<Declared>,
+        declared: Vec<Declared<FullName>>,
     ) -> Result<Draft, AllocError>
         requires named { names.now ≡ names_of declared.items }
         requires few { length declared.items < 2 ^ 32 }
@@ -58,10 +58,10 @@ impl Draft {
     /// past the limits.
     pub(crate) fn test(&self, alloc: Global, limit_line: Option<u32>) -> Result<(), ReadFault>
         requires { FitsTogether self.now }
-        ensures kept { (raw : List Declared) → IsDraftOf self.now raw
+        ensures kept { (raw : List declaring.Declared) → IsDraftOf self.now raw
             → IsFirstBreakIfAny (StaysWithinLimits raw) (all_lines raw) limit_line
             → OnOk result (LaterRulesHold raw) }
-        ensures broken { (raw : List Declared) → IsDraftOf self.now raw
+        ensures broken { (raw : List declaring.Declared) → IsDraftOf self.now raw
             → IsFirstBreakIfAny (StaysWithinLimits raw) (all_lines raw) limit_line
             → IfErr result (IfRefused (IsFirstBrokenOf later_rules raw)) }
     {
@@ -83,7 +83,7 @@ impl Draft {
     #[tactic(auto, using(crate::proofs::Drafts::chains_first))]
     fn chain_line(&self) -> Option<u32>
         requires { FitsTogether self.now }
-        ensures { (raw : List Declared) → IsDraftOf self.now raw
+        ensures { (raw : List declaring.Declared) → IsDraftOf self.now raw
             → IsFirstBreakIfAny (HasShortChain (flow_of_declarations raw)) (loop_lines raw) result }
     {
         chain_line(
@@ -95,7 +95,7 @@ impl Draft {
     /// The line of the first node that has not the edges of its kind.
     fn degree_line(&self) -> Option<u32>
         requires { FitsTogether self.now }
-        ensures { (raw : List Declared) → IsDraftOf self.now raw
+        ensures { (raw : List declaring.Declared) → IsDraftOf self.now raw
             → IsFirstBreakIfAny (HasItsDegrees (flow_of_declarations raw)) (node_lines raw) result }
     {
         let lines = self.parts.node_lines.as_slice();
@@ -111,7 +111,7 @@ impl Draft {
     #[tactic(auto, using(crate::proofs::Drafts::domains_first))]
     fn domain_line(&self) -> Option<u32>
         requires { FitsTogether self.now }
-        ensures { (raw : List Declared) → IsDraftOf self.now raw
+        ensures { (raw : List declaring.Declared) → IsDraftOf self.now raw
             → IsFirstBreakIfAny (JoinsDomains (flow_of_declarations raw)) (edge_lines raw) result }
     {
         domain_line(
@@ -126,9 +126,9 @@ impl Draft {
     /// error is want of memory.
     fn are_walks_right(&self, alloc: Global) -> Result<bool, AllocError>
         requires { FitsTogether self.now }
-        ensures right { (raw : List Declared) → IsDraftOf self.now raw
+        ensures right { (raw : List declaring.Declared) → IsDraftOf self.now raw
             → IfOk result (λ right. right ≡ true → AreWalksRight (flow_of_declarations raw)) }
-        ensures wrong { (raw : List Declared) → IsDraftOf self.now raw → KeepsRule raw code.F5
+        ensures wrong { (raw : List declaring.Declared) → IsDraftOf self.now raw → KeepsRule raw code.F5
             → IfOk result (λ right. right ≡ false → IsWalkWrong (flow_of_declarations raw)) }
     {
         are_walks_right(
@@ -143,7 +143,7 @@ impl Draft {
     #[tactic(auto, using(crate::proofs::Drafts::policies_first))]
     fn policy_line(&self) -> Option<u32>
         requires { FitsTogether self.now }
-        ensures { (raw : List Declared) → IsDraftOf self.now raw
+        ensures { (raw : List declaring.Declared) → IsDraftOf self.now raw
             → IsFirstBreakIfAny (HasAllowedPolicy (flow_of_declarations raw)) (node_lines raw) result }
     {
         policy_line(
@@ -154,7 +154,7 @@ impl Draft {
 
     /// Whether there are an input and an output.
     fn has_borders(&self) -> bool
-        ensures { (raw : List Declared) → IsDraftOf self.now raw → IsTrue result ↔ HasBorders (flow_of_declarations raw) }
+        ensures { (raw : List declaring.Declared) → IsDraftOf self.now raw → IsTrue result ↔ HasBorders (flow_of_declarations raw) }
     {
         has_borders(self.parts.nodes.as_slice())
     }

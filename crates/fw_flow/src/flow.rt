@@ -2,20 +2,23 @@
 ghost use Rattle.std.specs.Prelude.{◌≡◌, ◌<◌, length, map, MatchResult, IfOk};
 ghost use Rattle.fw_lines.specs.Faults.{IfRefused};
 ghost use Rattle.fw_flow.specs.Dataflow.{kind_of, policy_of, sender, receiver, in_edges, out_edges, domain_of, bounds_of, greatest_of, max_of, node_at};
+ghost use Rattle.fw_flow.specs.Flow.{AreBoundsOf};
 ghost use Rattle.fw_flow.specs.WellFormed.{IsWellFormed};
 ghost use Rattle.fw_flow.specs.DomainText.{name_of_edge};
 ghost use Rattle.fw_flow.specs.Names.{place_of};
 ghost use Rattle.fw_flow.specs.Check.{IsChecked, IsFirstBroken};
+ghost use Rattle.fw_flow.specs.Expand.{expand};
 
 use crate::check::{limit_line, refuse, undeclared_line};
 use crate::draft::Draft;
+use crate::expand::FullFlow;
 use crate::kind::parent_of;
 use crate::laws::flow_is_well_formed;
 use crate::name::Names;
-use crate::{Domain, Edge, EdgeId, Kind, Loop, LoopId, Name, Node, NodeId, Policy, RawFlow};
+use crate::{Domain, Edge, EdgeId, FullName, Kind, Loop, LoopId, Node, NodeId, Policy, RawFlow};
 use fw_lines::{Code, ReadFault};
 use fw_time::{Bounds, Stamp};
-use std::alloc::Global;
+use std::alloc::{AllocError, Global};
 use std::marker::Model;
 
 /// A well-formed dataflow. Contracts see its loops, nodes and edges.
@@ -29,6 +32,8 @@ pub struct Flow {
     // For each node its edges, in order.
     pub(crate) incoming: Vec<Vec<EdgeId>>,
     pub(crate) outgoing: Vec<Vec<EdgeId>>,
+    // The bounds of the domains of its nodes, in order, where they are kept.
+    pub(crate) bounds: Vec<Bounds>,
 }
 
 impl Model for Flow {
@@ -40,7 +45,7 @@ impl Model for Flow {
     ghost view = { λ flow. record { loops = flow.loops.items; nodes = flow.nodes.items; edges = flow.edges.items } };
 
     ghost invariant = { λ flow. IsIndexed (record { loops = flow.loops.items; nodes = flow.nodes.items; edges = flow.edges.items })
-        flow.node_names flow.edge_names flow.incoming.items flow.outgoing.items };
+        flow.node_names flow.edge_names flow.incoming.items flow.outgoing.items flow.bounds.items };
 }
 
 // Written out, so that it is one call wherever a flow is let go.
@@ -54,6 +59,7 @@ impl Drop for Flow {
             edge_names,
             incoming,
             outgoing,
+            bounds,
         } = self;
         drop(loops);
         drop(nodes);
@@ -62,6 +68,7 @@ impl Drop for Flow {
         drop(edge_names);
         drop(incoming);
         drop(outgoing);
+        drop(bounds);
     }
 }
 
@@ -111,8 +118,21 @@ impl Flow {
     }
 
     /// The bounds of the domain of a node's events; those of epochs past the last node.
-    #[tactic(auto, unfolding(crate::specs::Dataflow::bounds_of))]
     pub fn domain(&self, node: NodeId) -> Bounds
+        ensures { result ≡ bounds_of self.now node }
+    {
+        match self.bounds.get(node.place() as usize) {
+            Some(bounds) => Bounds {
+                greatest: bounds.greatest.copy(),
+                sides: bounds.sides,
+            },
+            None => self.bounds_of(node),
+        }
+    }
+
+    // The same, by the loops that the node is in.
+    #[tactic(auto, unfolding(crate::specs::Dataflow::bounds_of))]
+    fn bounds_of(&self, node: NodeId) -> Bounds
         ensures { result ≡ bounds_of self.now node }
     {
         Bounds {
@@ -201,7 +221,7 @@ impl Flow {
 
     /// The name of a node that the flow has.
     #[tactic(auto, unfolding(crate::specs::Dataflow::node_at))]
-    pub fn node_name(&self, node: NodeId) -> &Name
+    pub fn node_name(&self, node: NodeId) -> &FullName
         requires { node < length self.now.nodes }
         ensures { result.now ≡ (node_at self.now node).name }
     {
@@ -248,14 +268,35 @@ impl Flow {
         Some(EdgeId::at(place as u32))
     }
 
-    /// The flow of these declarations, where no rule is broken; else the first broken rule, with the line of the first
-    /// declaration that breaks it, or line 0 where it is broken by the flow as a whole. The rules are F3, F12, and F4 to F9,
-    /// in this order; those of words and names were tested before. The other error is want of memory.
+    /// The flow of the expansion of these declarations, where no rule is broken; else the first broken rule, with the line of the
+    /// first declaration that breaks it, or line 0 where it is broken by the flow as a whole. The rules are F3, F12, and F4 to F9,
+    /// in this order, tested on the expansion; those of words and names were tested before. The other error is want of memory.
     pub fn check(alloc: Global, raw: RawFlow) -> Result<Flow, ReadFault>
-        ensures checked { MatchResult result (IsChecked raw) (IfRefused (IsFirstBroken raw)) }
+        ensures checked { MatchResult result (IsChecked (expand raw)) (IfRefused (IsFirstBroken (expand raw))) }
         ensures well_formed { IfOk result IsWellFormed }
     {
-        let RawFlow { names, declared } = raw;
+        let mut flow = Flow::of(alloc, FullFlow::of(alloc, &raw)?)?;
+        flow.bounds = flow.each_bounds(alloc)?;
+        Ok(flow)
+    }
+
+    // The bounds of the domain of each node, in order. The error is want of memory.
+    fn each_bounds(&self, alloc: Global) -> Result<Vec<Bounds>, AllocError>
+        ensures { IfOk result (λ each. AreBoundsOf self.now each.items) }
+    {
+        let mut each = Vec::new(alloc);
+        for place in 0..self.nodes.len() {
+            each.push(self.bounds_of(NodeId::at(place as u32)))?;
+        }
+        Ok(each)
+    }
+
+    // The flow of an expansion, of which no bounds are kept, where no rule is broken; else the first broken rule.
+    fn of(alloc: Global, full: FullFlow) -> Result<Flow, ReadFault>
+        ensures checked { MatchResult result (IsChecked full) (IfRefused (IsFirstBroken full)) }
+        ensures well_formed { IfOk result IsWellFormed }
+    {
+        let FullFlow { names, declared } = full;
         names.loops.are_distinct();
         refuse(Code::F3, undeclared_line(&names, &declared))?;
         let limit_line = limit_line(&declared);
@@ -275,6 +316,7 @@ impl Flow {
             edge_names: names.edges,
             incoming,
             outgoing,
+            bounds: Vec::new(alloc),
         })
     }
 }

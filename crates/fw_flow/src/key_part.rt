@@ -36,7 +36,8 @@ pub fn is_of_part(part: Option<KeyPart>, key: u64) -> bool
 }
 
 impl<L> Kind<L> {
-    /// Whether nodes of this kind may be split: what they make of the recs of a key rests on recs of this key alone.
+    /// Whether nodes of this kind may be split. These may: distinct, join, sum and total. What they make of the recs of a key rests on
+    /// recs of this key alone.
     pub fn may_split(&self) -> bool
         ensures { result ≡ may_split self.now }
     {

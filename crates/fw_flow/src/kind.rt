@@ -1,13 +1,15 @@
 //! What a node does, at which times, and how it is restored.
-ghost use Rattle.std.specs.Prelude.{◌≡◌, IfSome};
+ghost use Rattle.std.specs.Prelude.{◌≡◌, IfOk, IfSome};
 ghost use Rattle.std.specs.Option.{option_copied};
 ghost use Rattle.fw_flow.specs.Dataflow.{Dataflow, domain_within, domain_of_kind, out_domain_of_kind, is_input_kind, is_output_kind, is_notified_kind, is_sequence_kind, declared_parent, ends_within, parent_of};
 ghost use Rattle.fw_flow.specs.Kind.{loop_of_kind, kind_map};
 ghost use Rattle.fw_flow.specs.KindText.{kind_text, policy_text};
 ghost use Rattle.fw_flow.specs.WellFormed.{is_feedback_kind};
 
+use crate::name::copied_if_any;
 use crate::{Loop, LoopId, Name};
 use fw_bag::Selection;
+use std::alloc::{AllocError, Global};
 use std::fmt;
 
 /// A domain of times, by its word.
@@ -146,6 +148,42 @@ impl<L> Kind<L> {
             Kind::Ledger => Kind::Ledger,
             Kind::Regroup(size) => Kind::Regroup(size),
         }
+    }
+}
+
+impl Kind<Name> {
+    /// The same kind, with a name of its own for its loop. The error is want of memory.
+    pub(crate) fn copied(&self, alloc: Global) -> Result<RawKind, AllocError>
+        ensures { IfOk result (λ kind. kind ≡ self.now) }
+    {
+        Ok(match self {
+            Kind::Input => Kind::Input,
+            Kind::OutputEpoch => Kind::OutputEpoch,
+            Kind::OutputNumber => Kind::OutputNumber,
+            Kind::Select { selection, within } => Kind::Select {
+                selection: *selection,
+                within: copied_if_any(alloc, within)?,
+            },
+            Kind::Concat { within } => Kind::Concat {
+                within: copied_if_any(alloc, within)?,
+            },
+            Kind::Distinct { within } => Kind::Distinct {
+                within: copied_if_any(alloc, within)?,
+            },
+            Kind::Join { within } => Kind::Join {
+                within: copied_if_any(alloc, within)?,
+            },
+            Kind::Sum { within } => Kind::Sum {
+                within: copied_if_any(alloc, within)?,
+            },
+            Kind::Enter(name) => Kind::Enter(name.copied(alloc)?),
+            Kind::Feedback(name) => Kind::Feedback(name.copied(alloc)?),
+            Kind::Leave(name) => Kind::Leave(name.copied(alloc)?),
+            Kind::Total => Kind::Total,
+            Kind::Sequence => Kind::Sequence,
+            Kind::Ledger => Kind::Ledger,
+            Kind::Regroup(size) => Kind::Regroup(*size),
+        })
     }
 }
 

@@ -1,8 +1,8 @@
 //! Dataflows: nodes, edges, kinds and policies, events and messages, cuts and choices, and the steps of a run.
 //!
-//! A `RawFlow` takes declarations by names, `Flow::check` tests every rule and gives the `Flow`, or the first broken rule
-//! with its line; `FlowBuilder` does both for flows that are made in code, and `Flow::add_batch` gives
-//! their inputs batches. A `Flow` answers look-ups by places, also past
+//! A `RawFlow` takes declarations by names, `Flow::check` spells out each split node as its replicas, tests every rule on this
+//! expansion and gives the `Flow`, or the first broken rule with its line; `FlowBuilder` does both for flows that are made in
+//! code, and `Flow::add_batch` gives their inputs batches. A `Flow` answers look-ups by places, also past
 //! its end, and projects frontiers along its edges (`Flow::phi`, `Flow::psi`, `Flow::psi_back`). The other types are the
 //! words of a run, over which `fw_model` defines what a run does.
 #![tactic(auto)]
@@ -14,7 +14,9 @@ mod choice;
 mod copies;
 mod draft;
 mod event;
+mod expand;
 mod flow;
+mod full_name;
 mod ids;
 mod key_part;
 mod kind;
@@ -43,6 +45,7 @@ pub use builder::{BuildFault, FlowBuilder};
 pub use choice::{Choice, Counted, Cut, OfEdge, Offer, Offered, Recorded, Stamps};
 pub use event::{Causes, Event, Message};
 pub use flow::Flow;
+pub use full_name::{FullName, is_full_name};
 pub use ids::{EdgeId, LoopId, NodeId};
 pub use key_part::{KeyPart, is_of_part};
 pub use kind::{Domain, Kind, Policy, RawKind};

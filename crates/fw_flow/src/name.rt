@@ -1,5 +1,5 @@
 //! Names of loops, nodes and edges.
-ghost use Rattle.std.specs.Prelude.{◌≡◌, ◌≤◌, true, [], ◌∷◌, ◌++◌, length, not, Some, None, if◌then◌else◌, IfOk, OnOk, OnErr};
+ghost use Rattle.std.specs.Prelude.{◌≡◌, ◌≤◌, true, false, [], ◌∷◌, ◌++◌, length, not, Some, None, if◌then◌else◌, IfOk, OnOk, OnErr};
 ghost use Rattle.std.specs.List.{IsDistinct};
 ghost use Rattle.std.specs.Str.{bytes_eq};
 ghost use Rattle.fw_lines.specs.Spelling as spelling;
@@ -48,6 +48,14 @@ impl Name {
         Ok(Some(Name { bytes }))
     }
 
+    /// The same name once more. The error is want of memory.
+    pub(crate) fn copied(&self, alloc: Global) -> Result<Name, AllocError>
+        ensures { IfOk result (λ name. name ≡ self.now) }
+    {
+        let bytes = Vec::from_slice(alloc, &self.bytes)?;
+        Ok(Name { bytes })
+    }
+
     /// Its bytes.
     pub fn as_bytes(&self) -> &[u8]
         ensures bytes { result.now ≡ self.now }
@@ -71,6 +79,16 @@ impl fmt::Display for Name {
     fn fmt<W: fmt::Write>(&self, f: &mut fmt::Formatter<W>) -> fmt::Result {
         write!(f, "{}", self.as_str())
     }
+}
+
+/// The same name once more, if there is one. The error is want of memory.
+pub(crate) fn copied_if_any(alloc: Global, name: &Option<Name>) -> Result<Option<Name>, AllocError>
+    ensures { IfOk result (λ same. same ≡ name.now) }
+{
+    Ok(match name {
+        Some(name) => Some(name.copied(alloc)?),
+        None => None,
+    })
 }
 
 /// Names in the order of their adding, each once. Contracts see the list of their bytes.
@@ -117,6 +135,14 @@ impl Names {
     {
         let name = Vec::from_slice(self.alloc, name)?;
         Ok(self.names.insert(name)?)
+    }
+
+    /// Adds a name that is new. The error is want of memory.
+    pub(crate) fn take(&mut self, name: &[u8]) -> Result<(), AllocError>
+        ensures { OnOk result (has_name name.now self.old ≡ false → self.new ≡ self.old ++ name.now ∷ []) }
+    {
+        self.add(name)?;
+        Ok(())
     }
 
     /// The place of a name, from 0; `None` where it is not among them.

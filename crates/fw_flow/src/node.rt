@@ -1,5 +1,5 @@
 //! The parts of a dataflow.
-use crate::{KeyPart, Kind, LoopId, Name, NodeId, Policy};
+use crate::{FullName, KeyPart, Kind, LoopId, Name, NodeId, Policy};
 
 /// A loop, with its greatest counter.
 #[derive(Debug, Drop)]
@@ -16,7 +16,7 @@ pub struct Loop {
 #[derive(Debug, Drop)]
 pub struct Node {
     /// Its name. No other node of a `Flow` has it, by `laws::names_are_distinct`.
-    pub name: Name,
+    pub name: FullName,
     /// What it does.
     pub kind: Kind,
     /// How it is restored after a failure.
@@ -30,7 +30,7 @@ pub struct Node {
 #[derive(Debug, Drop)]
 pub struct Edge {
     /// Its name. No other edge of a `Flow` has it, by `laws::names_are_distinct`.
-    pub name: Name,
+    pub name: FullName,
     /// The node that sends on it.
     pub sender: NodeId,
     /// The node to which what is sent on it is delivered.

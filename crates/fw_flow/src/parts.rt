@@ -7,7 +7,9 @@ ghost use Rattle.fw_flow.specs.Raw.{place_or_end, loop_in, node_in, edge_in};
 
 use crate::name::Names;
 use crate::raw::NameSpaces;
-use crate::{Declaration, Declared, Edge, Kind, Loop, LoopId, Name, Node, NodeId, RawKind};
+use crate::{
+    Declaration, Declared, Edge, FullName, Kind, Loop, LoopId, Name, Node, NodeId, RawKind,
+};
 use std::alloc::{AllocError, Global};
 
 /// The parts of a flow by their places, and the lines of its loops, nodes and edges.
@@ -27,7 +29,7 @@ impl Parts {
     pub(crate) fn of(
         alloc: Global,
         names: &NameSpaces,
-        declared: Vec<Declared>,
+        declared: Vec<Declared<FullName>>,
     ) -> Result<Parts, AllocError>
         requires loops { length names.now.loops < 2 ^ 32 }
         requires nodes { length names.now.nodes < 2 ^ 32 }
@@ -48,7 +50,7 @@ impl Parts {
     }
 
     // Adds what one declaration gives.
-    fn add(&mut self, names: &NameSpaces, declared: Declared) -> Result<(), AllocError>
+    fn add(&mut self, names: &NameSpaces, declared: Declared<FullName>) -> Result<(), AllocError>
         requires loops { length names.now.loops < 2 ^ 32 }
         requires nodes { length names.now.nodes < 2 ^ 32 }
         ensures loops { OnOk result
@@ -70,13 +72,19 @@ impl Parts {
                 self.loops.push(Loop { name, max, parent })?;
                 self.loop_lines.push(line)?;
             }
-            Declaration::Node { name, kind, policy } => {
+            Declaration::Node {
+                name,
+                kind,
+                policy,
+                part,
+                ..
+            } => {
                 let kind = resolved(&names.loops, kind);
                 self.nodes.push(Node {
                     name,
                     kind,
                     policy,
-                    part: None,
+                    part,
                 })?;
                 self.node_lines.push(line)?;
             }
@@ -115,7 +123,7 @@ fn loop_of(loops: &Names, name: &Name) -> LoopId
     LoopId::at(loops.place_or_end(name.as_bytes()) as u32)
 }
 
-fn node_of(nodes: &Names, name: &Name) -> NodeId
+fn node_of(nodes: &Names, name: &FullName) -> NodeId
     requires { length nodes.now < 2 ^ 32 }
     ensures { result ≡ place_or_end nodes.now name.now }
 {

@@ -1,18 +1,19 @@
 //! What the text of a flow declares, with names as they are written.
-ghost use Rattle.std.specs.Prelude.{◌≡◌, [], ◌∷◌, ◌++◌, if◌then◌else◌, IfOk, OnErr};
+ghost use Rattle.std.specs.Prelude.{◌≡◌, true, [], ◌∷◌, ◌++◌, if◌then◌else◌, IfOk, OnErr, OnOk};
 ghost use Rattle.fw_flow.specs.Raw.{names_of, is_new_among, with_name, is_new};
 
 use crate::name::Names;
-use crate::{Name, Policy, RawKind};
+use crate::{FullName, KeyPart, Name, Policy, RawKind};
 use std::alloc::{AllocError, Global};
 use std::marker::Model;
 
 /// How many declarations places of 32 bits can count.
 const LIMIT: usize = 4_294_967_295;
 
-/// What one line of a flow declares.
+/// What one line of a flow declares, with names of nodes and edges of the type `N`: as they are written, or `FullName`, once
+/// split nodes are spelled out as their replicas.
 #[derive(Debug, Drop)]
-pub enum Declaration {
+pub enum Declaration<N = Name> {
     /// A loop, in another one if it names a parent, with its greatest counter. A flow is refused where that is 0 or past
     /// 1024, and where the chain of loops from it, each in the next, does not end within three.
     Loop {
@@ -23,25 +24,30 @@ pub enum Declaration {
     /// A node, with what it does and how it is restored. A flow is refused where so many numbers as are regrouped are 0 or past
     /// 2^32 - 1.
     Node {
-        name: Name,
+        name: N,
         kind: RawKind,
         policy: Policy,
+        /// Into how many replicas it is split, if it is: each gets the recs of its part of the keys. It has no meaning at a kind
+        /// that is not `distinct`, `join`, `sum` or `total`. A flow is refused where it is below 2 or past 64.
+        split: Option<u64>,
+        /// The part of the keys whose recs come to it, where it is a replica itself. Then it is not split.
+        part: Option<KeyPart>,
     },
     /// An edge, from a node to a node, both by their names.
     Edge {
-        name: Name,
-        sender: Name,
-        receiver: Name,
+        name: N,
+        sender: N,
+        receiver: N,
     },
 }
 
 /// A declaration, with its line.
 #[derive(Debug, Drop)]
-pub struct Declared {
+pub struct Declared<N = Name> {
     /// Lines are counted from 1. A refusal of the declaration has this line.
     pub line: u32,
     /// What the line declares.
-    pub declaration: Declaration,
+    pub declaration: Declaration<N>,
 }
 
 /// The names that are taken, in three name spaces.
@@ -53,7 +59,7 @@ pub(crate) struct NameSpaces {
 }
 
 impl NameSpaces {
-    fn new(alloc: Global) -> Self
+    pub(crate) fn new(alloc: Global) -> Self
         ensures { result ≡ names_of [] }
     {
         NameSpaces {
@@ -77,6 +83,19 @@ impl NameSpaces {
     }
 }
 
+impl NameSpaces {
+    /// Adds the name of a declaration with full names to its name space. The error is want of memory.
+    pub(crate) fn take(&mut self, declaration: &Declaration<FullName>) -> Result<(), AllocError>
+        ensures { OnOk result (is_new_among self.old declaration.now ≡ true → self.new ≡ with_name self.old declaration.now) }
+    {
+        match declaration {
+            Declaration::Loop { name, .. } => self.loops.take(name.as_bytes()),
+            Declaration::Node { name, .. } => self.nodes.take(name.as_bytes()),
+            Declaration::Edge { name, .. } => self.edges.take(name.as_bytes()),
+        }
+    }
+}
+
 /// The declarations of a flow, in order, of which no two have one name in a name space: loops, nodes and edges are
 /// three. `laws::declared_names_are_distinct` tells so. Contracts see their list.
 #[derive(Debug, Drop)]
@@ -87,7 +106,7 @@ pub struct RawFlow {
 
 impl Model for RawFlow {
     ghost use Rattle.std.specs.Prelude.{List};
-    ghost use Rattle.fw_flow.specs.declared.raw.Declared.{Declared};
+    ghost use Rattle.fw_flow.specs.Declaring.{Declared};
     ghost use Rattle.fw_flow.specs.Raw.{AreNamed};
 
     ghost Value = { List Declared };

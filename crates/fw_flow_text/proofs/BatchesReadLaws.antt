@@ -1,5 +1,5 @@
 -- The text of batches is read as these batches.
-use Rattle.std.proofs.Common.{◌≡◌, ℕ, zero, suc, ◌+◌, ◌<◌, ◌≤◌, ◌^◌, ◌%◌, ◌==◌, nat_le, nat_lt, Bool, true, false, ◌&&◌, ◌||◌, not, cond, List, [], ◌∷◌, ◌++◌, length, map, take, drop, get_or, refl, sym, ◌∙◌, ap, subst, append_assoc, arith, lit<, Option, Some, None, inl, inr, ◌⊎◌, codes}
+use Rattle.std.proofs.Common.{◌≡◌, ℕ, zero, suc, ◌+◌, ◌<◌, ◌≤◌, ◌^◌, ◌==◌, nat_le, nat_lt, Bool, true, false, ◌&&◌, ◌||◌, not, cond, List, [], ◌∷◌, ◌++◌, length, map, take, drop, get_or, refl, sym, ◌∙◌, ap, subst, append_assoc, arith, Some, None, inl, inr, ◌⊎◌, codes}
 use Rattle.std.proofs.Math.Seq.{drop-append-add, take-append_seam}
 use Rattle.std.proofs.lemmas.Bool.{and_from, and_parts, cases_lt, eqb-true, or_right}
 use Rattle.std.proofs.lemmas.Bool.Decides.{nat_tests}
@@ -20,31 +20,30 @@ use Rattle.std.specs.Str.Parse.{digits_value}
 use Rattle.fw_lemmas.proofs.Each.{each-append, each-suffix, each-at}
 use Rattle.fw_bag.specs.Bag.{IsRec, bag_sum}
 use Rattle.fw_bag.specs.declared.rec.Rec.{Rec}
-use Rattle.fw_bag.specs.Rec.{IsAscending}
 use Rattle.fw_bag.specs.RecText.{rec_text}
 use Rattle.fw_bag.proofs.BagLaws.{same_from_how_often, how_often-bag_sum, IsAscending-bag_sum}
 use Rattle.fw_lines.specs.declared.numeral.Number.{Number}
 use Rattle.fw_lines.specs.declared.numeral.Number.TheVariants.{Value, TooLarge, NotANumber}
 use Rattle.fw_lines.specs.declared.record.RecordWord.{RecordWord}
 use Rattle.fw_lines.specs.declared.record.RecordWord.TheVariants.{Sound, Broken}
-use Rattle.fw_lines.specs.declared.refusal.Code.{Code}
 use Rattle.fw_lines.specs.declared.refusal.Code.TheVariants.{I1, I3, I4, I5}
 use Rattle.fw_lines.specs.Batches.{batches_at, IsBatch}
-use Rattle.fw_lines.specs.Faults.{BreakNoRule, BreaksNone}
-use Rattle.fw_lines.specs.Inputs.{batch_of, batches_said_of, broken_rule, count_of, count_fault, form_fault, has_large_number, inputs_fault, inputs_line_fault, inputs_rules, inputs_size_limit, is_batch_of, is_batch_of_words, is_colon, number_fault, record_from, record_said, source_fault, source_said, spelled_rec, value_fault, words_fault}
+use Rattle.fw_lines.specs.Faults.{BreakNoRule}
+use Rattle.fw_lines.specs.Inputs.{batch_of, batches_said_of, broken_rule, count_of, count_fault, has_large_number, inputs_fault, inputs_line_fault, inputs_rules, inputs_size_limit, is_batch_of, is_batch_of_words, is_colon, record_from, record_said, spelled_rec, value_fault, words_fault}
 use Rattle.fw_lines.specs.Lines.{Said, is_allowed, is_word, said_lines}
 use Rattle.fw_lines.specs.Sources.{node_named}
 use Rattle.fw_lines.specs.Spelling.{is_name, number_of}
-use Rattle.fw_lines.specs.Written.{WordLine, is_in_words, is_plain, is_plain_line, line_text, numbered, spaced, text_of}
+use Rattle.fw_lines.specs.Written.{WordLine, is_in_words, is_plain, is_plain_line, line_text, numbered, text_of}
 use Rattle.fw_lines.proofs.WrittenLaws.{said_lines-text_of}
 use Rattle.fw_flow.specs.declared.node.Node.{Node}
 use Rattle.fw_flow.specs.Dataflow.{Dataflow, batches_of, batches_of_nodes, idle_node, is_input_kind, kind_of, node_at, node_ids, system_of}
 use Rattle.fw_flow.specs.Sources.{AreInputsOf, source_named_at, sources_of}
 use Rattle.fw_flow.specs.WellFormed.{IsWellFormedSystem}
+use Rattle.fw_flow.specs.PlainNames.{HasPlainInputs}
 use Rattle.fw_flow_text.specs.BatchesText.{line_of_batch, lines_of_batches, lines_of_node, text_of_batches}
 use Rattle.fw_flow_text.proofs.PlainLaws.{digit_in_words, each_in_words, good-name}
-use Rattle.fw_flow_text.proofs.SpelledLaws.{decimal_digits, decimal_numeral}
-use Rattle.fw_flow_text.proofs.WrittenLaws.{other_way}
+use Rattle.fw_lines.proofs.DecimalLaws.{decimal_digits, decimal_numeral}
+use Rattle.fw_flow.proofs.NewLaws.{other_way}
 
 -- ---- a rec
 
@@ -158,7 +157,7 @@ nodes_lined flow batches (p ∷ ps) =
 -- the flow has names, each its own, and the batches of each node are bags of recs, at most 2^20
 pub record AreGiven (flow : Dataflow) (given : ℕ → List (List Rec)) : Type 0 where
   pub once : IsDistinct bytes_eq (map (λ (n : Node). n.name) flow.nodes)
-  pub named : AllByRecursion (λ (n : Node). is_name n.name ≡ true) flow.nodes
+  pub named : HasPlainInputs flow
   pub bags : (p : ℕ) → p < length flow.nodes → AllByRecursion IsBatch (given p)
   pub few : (p : ℕ) → p < length flow.nodes → length (given p) ≤ 2 ^ 20
   pub of_inputs : (p : ℕ) → p < length flow.nodes → is_input_kind (kind_of flow p) ≡ false → given p ≡ []
@@ -199,9 +198,10 @@ named_source : (flow : Dataflow) (given : ℕ → List (List Rec)) → AreGiven 
     → node_named (sources_of flow) (node_at flow p).name ≡ Some p
 named_source flow given h p lt input = source_found flow p h.once lt input 0 (length flow.nodes) (omega arith) (omega (arith, lt))
 
-node_name : (flow : Dataflow) (given : ℕ → List (List Rec)) → AreGiven flow given → (p : ℕ) → p < length flow.nodes → is_name (node_at flow p).name ≡ true
-unfolding node_at
-node_name flow given h p lt = each-at (λ (n : Node). is_name n.name ≡ true) flow.nodes p idle_node lt h.named
+node_name : (flow : Dataflow) (given : ℕ → List (List Rec)) → AreGiven flow given → (p : ℕ) → p < length flow.nodes → is_input_kind (kind_of flow p) ≡ true
+    → is_name (node_at flow p).name ≡ true
+unfolding node_at kind_of
+node_name flow given h p lt input = each-at (λ (n : Node). is_input_kind n.kind ≡ true → is_name n.name ≡ true) flow.nodes p idle_node lt h.named input
 
 -- ---- the lines
 
@@ -329,7 +329,7 @@ plain_line flow given h words (inr (p, recs, lt, input, batch, same)) =
     let name = (node_at flow p).name in
     ap is_plain_line same
     ∙ and_from (is_plain name && list_all is_plain (map rec_text recs)) true
-    (and_from (is_plain name) (list_all is_plain (map rec_text recs)) (good-name name (node_name flow given h p lt)).plain (recs_read recs batch.recs).plain) refl
+    (and_from (is_plain name) (list_all is_plain (map rec_text recs)) (good-name name (node_name flow given h p lt input)).plain (recs_read recs batch.recs).plain) refl
 
 all_plain : (flow : Dataflow) (given : ℕ → List (List Rec)) → AreGiven flow given → (lines : List WordLine) → AllByRecursion (IsLine flow) lines → list_all is_plain_line lines ≡ true
 all_plain flow given h [] each = refl
@@ -342,7 +342,7 @@ line_sound flow given h p count recs lt input batch few =
     let name = (node_at flow p).name in
     let read = recs_read recs batch.recs in
     let room : nat_le (2 ^ 20) count ≡ false = grind (arith, nat_tests, few) in
-    ap (λ b. option_or (cond b (words_fault (map rec_text recs)) (Some I1)) (value_fault (node_named (sources_of flow) name) (map rec_text recs) count)) (node_name flow given h p lt)
+    ap (λ b. option_or (cond b (words_fault (map rec_text recs)) (Some I1)) (value_fault (node_named (sources_of flow) name) (map rec_text recs) count)) (node_name flow given h p lt input)
     ∙ ap (λ o. option_or o (value_fault (node_named (sources_of flow) name) (map rec_text recs) count)) read.sound
     ∙ ap (λ o. value_fault o (map rec_text recs) count) (named_source flow given h p lt input)
     ∙ ap (λ b. option_or (cond b (Some I3) None) (count_fault count)) read.small
@@ -393,7 +393,7 @@ batches_written flow batches h short =
 
 -- the batches of a well-formed system are given so
 pub given_of-system : (flow : Dataflow) (batches : List (ℕ × List (List Rec))) → IsWellFormedSystem (system_of flow batches)
-    → IsDistinct bytes_eq (map (λ (n : Node). n.name) flow.nodes) → AllByRecursion (λ (n : Node). is_name n.name ≡ true) flow.nodes → AreGiven flow (batches_at batches)
+    → IsDistinct bytes_eq (map (λ (n : Node). n.name) flow.nodes) → HasPlainInputs flow → AreGiven flow (batches_at batches)
 unfolding batches_of batches_of_nodes
 given_of-system flow batches w once named =
     let at : (p : ℕ) → p < length flow.nodes → batches_of (system_of flow batches) p ≡ batches_at batches p = λ p lt. get_or-map-range_with_len (batches_at batches) 0 (length flow.nodes) p p [] lt (omega arith) in

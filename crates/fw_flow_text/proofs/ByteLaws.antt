@@ -1,6 +1,7 @@
 -- The bytes of an accepted text. Words are clean where each of their bytes is allowed.
-use Rattle.std.proofs.Common.{◌≡◌, ℕ, ◌+◌, ◌<◌, Bool, true, false, ◌&&◌, cond, List, [], ◌∷◌, ◌++◌, length, Option, Some, None, refl, ◌∙◌, ap, arith, codes, nat_lt, ◌^◌, IfSome, ◌⊎◌, inl, inr}
+use Rattle.std.proofs.Common.{◌≡◌, ℕ, ◌+◌, ◌-◌, ◌<◌, Bool, true, false, ◌&&◌, cond, List, [], ◌∷◌, ◌++◌, length, take, drop, Option, Some, None, refl, ◌∙◌, ap, arith, codes, nat_lt, ◌^◌, IfSome, ◌⊎◌, inl, inr}
 use Rattle.std.proofs.lemmas.Bool.Decides.{nat_tests}
+use Rattle.std.proofs.lemmas.List.{take-append-drop}
 use Rattle.std.specs.Char.{is_ascii_digit}
 use Rattle.std.specs.Fmt.{decimal}
 use Rattle.std.specs.List.{list_all, filter, slice_split, onto_first}
@@ -20,17 +21,17 @@ use Rattle.fw_lines.specs.Lines.{is_allowed, is_space, is_line_feed, is_word, wo
 use Rattle.fw_lines.specs.Spelling.{is_letter, is_in_names, is_name, is_numeral}
 use Rattle.fw_flow.specs.declared.kind.Policy.{Policy}
 use Rattle.fw_flow.specs.declared.kind.Policy.TheVariants as policy
-use Rattle.fw_flow.specs.declared.raw.Declaration.{Declaration}
+use Rattle.fw_flow.specs.Declaring.{Declaration}
 use Rattle.fw_flow.specs.declared.raw.Declaration.TheVariants.{Loop, Node, Edge}
-use Rattle.fw_flow.specs.declared.raw.Declared.{Declared}
+use Rattle.fw_flow.specs.Declaring.{Declared}
 use Rattle.fw_flow.specs.Kind.{RawKind}
 use Rattle.fw_flow.specs.declared.kind.Kind.TheVariants.{Input, OutputEpoch, OutputNumber, Select, Concat, Distinct, Join, Sum, Enter, Feedback, Leave, Total, Sequence, Ledger, Regroup}
 use Rattle.fw_flow.specs.Dataflow.{Dataflow}
 use Rattle.fw_flow_text.specs.Grammar.{AreWordsOf, Declare, IsAcceptedFlow}
 use Rattle.fw_flow_text.specs.Laws.{is_in_texts}
-use Rattle.fw_flow_text.specs.Spelled.{field_word, comparison_word, term_word, value_words, assignment_words, selection_words, policy_words, ending_words, node_words, parent_words, declaration_words, IsSmallTerm, IsSmallValue, IsSmallAssignment, IsSmall, IsName, IsWritableNode, IsWritable}
+use Rattle.fw_flow_text.specs.Spelled.{field_word, comparison_word, term_word, value_words, assignment_words, selection_words, policy_words, ending_words, node_words, split_words, parent_words, declaration_words, IsSmallTerm, IsSmallValue, IsSmallAssignment, IsSmall, IsName, IsSplitWritten, IsWritableNode, IsWritable}
 use Rattle.fw_flow_text.proofs.DeclaredLaws.{DeclaresFirst, front}
-use Rattle.fw_flow_text.proofs.SpelledLaws.{decimal_numeral}
+use Rattle.fw_lines.proofs.DecimalLaws.{decimal_numeral}
 
 abbrev pub is_clean : List ℕ → Bool
 is_clean word = list_all is_allowed word
@@ -71,6 +72,14 @@ decimal_clean n h = digits_clean (decimal n) (decimal_numeral n h)
 append_clean : (xs ys : List (List ℕ)) → are_clean xs ≡ true → are_clean ys ≡ true → are_clean (xs ++ ys) ≡ true
 append_clean [] ys e f = f
 append_clean (x ∷ xs) ys e f = and_from (is_clean x) (are_clean (xs ++ ys)) (first_holds (is_clean x) (are_clean xs) e) (append_clean xs ys (second_holds (is_clean x) (are_clean xs) e) f)
+
+clean_front : (xs ys : List (List ℕ)) → are_clean (xs ++ ys) ≡ true → are_clean xs ≡ true
+clean_front [] ys e = refl
+clean_front (x ∷ xs) ys e = and_from (is_clean x) (are_clean xs) (first_holds (is_clean x) (are_clean (xs ++ ys)) e) (clean_front xs ys (second_holds (is_clean x) (are_clean (xs ++ ys)) e))
+
+clean_behind : (xs ys : List (List ℕ)) → are_clean (xs ++ ys) ≡ true → are_clean ys ≡ true
+clean_behind [] ys e = e
+clean_behind (x ∷ xs) ys e = clean_behind xs ys (second_holds (is_clean x) (are_clean (xs ++ ys)) e)
 
 field_clean : (field : Field) → is_clean (field_word field) ≡ true
 field_clean Key = refl
@@ -134,6 +143,15 @@ node_clean Sequence p w = policy_clean p
 node_clean Ledger p w = policy_clean p
 node_clean (Regroup size) p w = and_from (is_clean (decimal size)) (are_clean (policy_words p)) (decimal_clean size w.numbers) (policy_clean p)
 
+split_clean : (kind : RawKind) (p : Policy) (split : Option ℕ) → IsWritableNode kind p → IsSplitWritten kind split → are_clean (split_words split (node_words kind p)) ≡ true
+split_clean kind p None w s = node_clean kind p w
+split_clean kind p (Some n) w s =
+    let ws = node_words kind p in
+    let m = length ws - 2 in
+    let whole : are_clean (take m ws ++ drop m ws) ≡ true = ap are_clean (take-append-drop m ws) ∙ node_clean kind p w in
+    append_clean (take m ws) (codes "split" ∷ decimal n ∷ drop m ws) (clean_front (take m ws) (drop m ws) whole)
+    (and_from (is_clean (decimal n)) (are_clean (drop m ws)) (decimal_clean n s.1) (clean_behind (take m ws) (drop m ws) whole))
+
 parent_clean : (parent : Option (List ℕ)) → IfSome parent IsName → are_clean (parent_words parent) ≡ true
 parent_clean None h = refl
 parent_clean (Some name) h = named_clean name [] h refl
@@ -141,7 +159,7 @@ parent_clean (Some name) h = named_clean name [] h refl
 declaration_clean : (declaration : Declaration) → IsWritable declaration → are_clean (declaration_words declaration) ≡ true
 declaration_clean (Loop name max parent) w =
     named_clean name (codes "max" ∷ decimal max ∷ parent_words parent) w.0 (and_from (is_clean (decimal max)) (are_clean (parent_words parent)) (decimal_clean max w.1) (parent_clean parent w.2))
-declaration_clean (Node name kind p) w = named_clean name (node_words kind p) w.0 (node_clean kind p w.1)
+declaration_clean (Node name kind p split part) w = named_clean name (split_words split (node_words kind p)) w.0 (split_clean kind p split w.1 w.2)
 declaration_clean (Edge name sender receiver) w = named_clean name (sender ∷ receiver ∷ []) w.0 (named_clean sender (receiver ∷ []) w.1 (named_clean receiver [] w.2 refl))
 
 -- ---- lines

@@ -11,9 +11,9 @@ use Rattle.fw_lines.specs.declared.refusal.Code.TheVariants.{F1, F2, F10}
 use Rattle.fw_lines.specs.Faults.{BreakNoRule}
 use Rattle.fw_lines.specs.Lines.{Said}
 use Rattle.fw_lines.proofs.FaultLaws.{AreExact, told_none, IsSoundSoFar, none_judged, sound_more, none_left}
-use Rattle.fw_flow.specs.declared.raw.Declaration.{Declaration}
+use Rattle.fw_flow.specs.Declaring.{Declaration}
 use Rattle.fw_flow.specs.declared.raw.Declaration.TheVariants.{Loop, Node, Edge}
-use Rattle.fw_flow.specs.declared.raw.Declared.{Declared}
+use Rattle.fw_flow.specs.Declaring.{Declared}
 use Rattle.fw_flow.specs.Raw.{is_new}
 use Rattle.fw_flow_text.specs.Grammar.{AreWordsOf, are_there, line_of, Declare, is_large_number, capped, HaveFormOf, BreakAfter, Breaks}
 use Rattle.fw_flow_text.specs.Spelled.{declaration_words, IsWritable}
@@ -40,7 +40,7 @@ no_words (word ∷ words) e = absurd (cc)
 -- a declaration has words
 spoken : (declaration : Declaration) → are_there (declaration_words declaration) ≡ true
 spoken (Loop name max parent) = refl
-spoken (Node name kind policy) = refl
+spoken (Node name kind policy split part) = refl
 spoken (Edge name sender receiver) = refl
 
 not_silent : (words : List (List ℕ)) (declaration : Declaration) → words ≡ declaration_words declaration → words ≡ [] → ⊥

@@ -23,15 +23,15 @@ use Rattle.fw_lines.specs.Lines.{Said, bytes_at, words_at}
 use Rattle.fw_lines.proofs.FaultLaws.{if_refused-weaker}
 use Rattle.fw_flow.specs.declared.kind.Policy.{Policy}
 use Rattle.fw_flow.specs.declared.kind.Policy.TheVariants.{None as NoPolicy}
-use Rattle.fw_flow.specs.declared.raw.Declaration.{Declaration}
+use Rattle.fw_flow.specs.Declaring.{Declaration}
 use Rattle.fw_flow.specs.declared.raw.Declaration.TheVariants.{Loop, Node, Edge}
-use Rattle.fw_flow.specs.declared.raw.Declared.{Declared}
+use Rattle.fw_flow.specs.Declaring.{Declared}
 use Rattle.fw_flow.specs.Kind.{RawKind, loop_of_kind}
 use Rattle.fw_flow.specs.declared.kind.Kind.TheVariants.{Select}
 use Rattle.fw_flow.specs.Raw.{is_new}
 use Rattle.fw_flow_text.specs.declared.node.NodeForm.{NodeForm}
 use Rattle.fw_flow_text.specs.Grammar.{AreWordsOf, Declare, is_large_number, capped, capped_words, Finds, BreakAfter}
-use Rattle.fw_flow_text.specs.Spelled.{field_word, comparison_word, term_word, value_words, condition_words, assignment_words, selection_words, ending_words, node_words, IsSmallTerm, IsSmallValue, IsSmallAssignment, IsSmall, IsSmallKind, IsName, AreNodeWords}
+use Rattle.fw_flow_text.specs.Spelled.{field_word, comparison_word, term_word, value_words, condition_words, assignment_words, selection_words, ending_words, node_words, split_words, IsSmallTerm, IsSmallValue, IsSmallAssignment, IsSmall, IsSmallKind, IsName, AreNodeWords, AreSplitWords}
 use Rattle.fw_flow_text.proofs.DeclaredLaws.{small_words, declare_push, fault_from_rule, formed}
 use Rattle.fw_flow_text.proofs.Reading.{condition_of, value_part, name_fault}
 use Rattle.fw_flow_text.proofs.SpelledLaws.{condition_read, value_read}
@@ -229,12 +229,12 @@ no_select word words rest found e only none form h = by form.kind h.same h.writa
 
 -- where no node is found behind a name, none is written so
 pub no_node : (text : List ℕ) (words rest : List Span) (d : Span) (kind : List ℕ) → 2 ≤ length words → rest ≡ drop 2 words → kind ≡ word_at text words 1 d
-    → ((form : NodeForm) → AreNodeWords kind (capped_words text rest) form → ⊥) → (declaration : Declaration) → AreWordsOf (codes "node" ∷ capped_words text words) declaration → ⊥
+    → ((found : NodeForm × Option ℕ) → AreSplitWords kind (capped_words text rest) found.0 found.1 → ⊥) → (declaration : Declaration) → AreWordsOf (codes "node" ∷ capped_words text words) declaration → ⊥
 no_node text words rest d kind h e i none (Loop n max parent) w = let t : true ≡ false = ap (λ ws. bytes_eq (get_or ws 0 []) (codes "node")) w.same in absurd (cc)
 no_node text words rest d kind h e i none (Edge n sender receiver) w = let t : true ≡ false = ap (λ ws. bytes_eq (get_or ws 0 []) (codes "node")) w.same in absurd (cc)
-no_node text words rest d kind h e i none (Node n k p) w =
-    let all : word_at text words 0 d ∷ word_at text words 1 d ∷ capped_words text rest ≡ n ∷ node_words k p = sym (first_two text words rest d h e) ∙ ap (drop 1) w.same in
-    none (record { kind = k; policy = p }) (record { same = ap (λ v. v ∷ capped_words text rest) i ∙ ap (drop 1) all; writable = w.writable.1 })
+no_node text words rest d kind h e i none (Node n k p split part) w =
+    let all : word_at text words 0 d ∷ word_at text words 1 d ∷ capped_words text rest ≡ n ∷ split_words split (node_words k p) = sym (first_two text words rest d h e) ∙ ap (drop 1) w.same in
+    none (record { kind = k; policy = p }, split) (record { same = ap (λ v. v ∷ capped_words text rest) i ∙ ap (drop 1) all; writable = w.writable.1; splits = w.writable.2 })
 
 -- ---- lines
 

@@ -7,5 +7,7 @@ pub mod ReadLaws
 pub mod Reading
 pub mod ReadingLaws
 pub mod SpelledLaws
+pub mod SplitFoundLaws
+pub mod SplitLaws
 pub mod FoundLaws
 pub mod WrittenLaws

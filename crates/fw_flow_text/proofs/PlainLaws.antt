@@ -1,17 +1,17 @@
 -- The words of what a flow declares can stand in a line, and none is a number of 2^64 or more.
-use Rattle.std.proofs.Common.{◌≡◌, ℕ, ◌<◌, ◌^◌, ◌==◌, nat_lt, Bool, true, false, ◌&&◌, ◌||◌, cond, not, List, [], ◌∷◌, ◌++◌, length, refl, sym, ◌∙◌, ap, subst, arith, Option, Some, None, IfSome, codes}
+use Rattle.std.proofs.Common.{◌≡◌, ℕ, ◌-◌, ◌<◌, ◌^◌, ◌==◌, nat_lt, Bool, true, false, ◌&&◌, ◌||◌, cond, not, List, [], ◌∷◌, ◌++◌, length, take, drop, refl, sym, ◌∙◌, ap, subst, arith, Option, Some, None, IfSome, codes}
 use Rattle.std.proofs.lemmas.Bool.{and_from, and_parts}
 use Rattle.std.proofs.lemmas.Bool.Decides.{nat_tests}
 use Rattle.std.proofs.lemmas.Fmt.{decimal_is_IsNumeral, decimal_nonempty}
+use Rattle.std.proofs.lemmas.List.{take-append-drop}
 use Rattle.std.specs.Char.{is_ascii_digit}
 use Rattle.std.specs.Fmt.{decimal}
 use Rattle.std.specs.List.{AllByRecursion, list_all, list_any}
 use Rattle.std.specs.Str.Parse.{digits_value}
-use Rattle.fw_lemmas.proofs.Each.{each-append}
+use Rattle.fw_lemmas.proofs.Each.{each-append, each-prefix, each-suffix}
 use Rattle.fw_bag.specs.declared.select.Assignment.{Assignment}
 use Rattle.fw_bag.specs.declared.select.Comparison.{Comparison}
 use Rattle.fw_bag.specs.declared.select.Comparison.TheVariants.{Equal, NotEqual, Less, LessOrEqual, Greater, GreaterOrEqual}
-use Rattle.fw_bag.specs.declared.select.Condition.{Condition}
 use Rattle.fw_bag.specs.declared.select.Field.{Field}
 use Rattle.fw_bag.specs.declared.select.Field.TheVariants.{Key, Value}
 use Rattle.fw_bag.specs.declared.select.NewValue.{NewValue}
@@ -26,13 +26,13 @@ use Rattle.fw_lines.specs.Spelling.{is_in_names, is_letter, is_name, is_numeral,
 use Rattle.fw_lines.specs.Written.{is_in_words, is_plain, is_plain_line}
 use Rattle.fw_flow.specs.declared.kind.Policy.{Policy}
 use Rattle.fw_flow.specs.declared.kind.Policy.TheVariants as policy
-use Rattle.fw_flow.specs.declared.raw.Declaration.{Declaration}
+use Rattle.fw_flow.specs.Declaring.{Declaration}
 use Rattle.fw_flow.specs.declared.raw.Declaration.TheVariants.{Loop, Node, Edge}
 use Rattle.fw_flow.specs.Kind.{RawKind}
 use Rattle.fw_flow.specs.declared.kind.Kind.TheVariants.{Input, OutputEpoch, OutputNumber, Select, Concat, Distinct, Join, Sum, Enter, Feedback, Leave, Total, Sequence, Ledger, Regroup}
 use Rattle.fw_flow_text.specs.Grammar.{is_large_number, is_too_large}
-use Rattle.fw_flow_text.specs.Spelled.{field_word, comparison_word, term_word, value_words, assignment_words, condition_words, selection_words, policy_words, ending_words, node_words, parent_words, declaration_words, IsSmallTerm, IsSmallValue, IsSmallAssignment, IsSmall, IsName, IsWritableNode, IsWritable}
-use Rattle.fw_flow_text.proofs.SpelledLaws.{decimal_digits, decimal_numeral}
+use Rattle.fw_flow_text.specs.Spelled.{field_word, comparison_word, term_word, value_words, assignment_words, condition_words, selection_words, policy_words, ending_words, node_words, split_words, parent_words, declaration_words, IsSmallTerm, IsSmallValue, IsSmallAssignment, IsSmall, IsName, IsSplitWritten, IsWritableNode, IsWritable}
+use Rattle.fw_lines.proofs.DecimalLaws.{decimal_digits, decimal_numeral}
 
 -- the word can stand in a line, and is no number of 2^64 or more
 pub record IsGoodWord (word : List ℕ) : Type 0 where
@@ -182,13 +182,23 @@ good-node Sequence p w = (record { plain = refl; small = refl }, good-policy p)
 good-node Ledger p w = (record { plain = refl; small = refl }, good-policy p)
 good-node (Regroup n) p w = (record { plain = refl; small = refl }, (good-number n w.numbers, good-policy p))
 
+good-split : (k : RawKind) (p : Policy) (split : Option ℕ) → IsWritableNode k p → IsSplitWritten k split → AreGoodWords (split_words split (node_words k p))
+unfolding number_of
+good-split k p None w s = good-node k p w
+good-split k p (Some n) w s =
+    let ws = node_words k p in
+    let m = length ws - 2 in
+    let whole : AreGoodWords (take m ws ++ drop m ws) = subst AreGoodWords (sym (take-append-drop m ws)) (good-node k p w) in
+    each-append IsGoodWord (take m ws) (codes "split" ∷ decimal n ∷ drop m ws) (each-prefix IsGoodWord (take m ws) (drop m ws) whole)
+    (record { plain = refl; small = refl }, (good-number n s.1, each-suffix IsGoodWord (take m ws) (drop m ws) whole))
+
 -- ---- declarations
 
 good-declaration : (d : Declaration) → IsWritable d → AreGoodWords (declaration_words d)
 unfolding number_of
 good-declaration (Loop name max parent) w =
     (record { plain = refl; small = refl }, (good-name name w.0, (record { plain = refl; small = refl }, (good-number max w.1, good-parent parent w.2))))
-good-declaration (Node name kind p) w = (record { plain = refl; small = refl }, (good-name name w.0, good-node kind p w.1))
+good-declaration (Node name kind p split part) w = (record { plain = refl; small = refl }, (good-name name w.0, good-split kind p split w.1 w.2))
 good-declaration (Edge name sender receiver) w = (record { plain = refl; small = refl }, (good-name name w.0, (good-name sender w.1, (good-name receiver w.2, tt))))
 
 all_plain : (words : List (List ℕ)) → AreGoodWords words → list_all is_plain words ≡ true
@@ -201,7 +211,7 @@ none_large (word ∷ words) h = ap (λ b. b || list_any (λ w. is_large_number w
 
 no_comment : (d : Declaration) → not (is_comment (declaration_words d)) ≡ true
 no_comment (Loop name max parent) = refl
-no_comment (Node name kind p) = refl
+no_comment (Node name kind p split part) = refl
 no_comment (Edge name sender receiver) = refl
 
 -- the words of a declaration that can be written are those of a line

@@ -11,9 +11,10 @@ use Rattle.fw_lines.specs.Lines.{Said, said_lines, said_in, words_at}
 use Rattle.fw_lines.proofs.FaultLaws.{IsSoundSoFar, sound_more, first_fault, none_left, sound_or_refused, sound_or_some_refusal, one_first_refusal}
 use Rattle.fw_flow.proofs.AnswerLaws.{some_answer as some_checked}
 use Rattle.fw_flow.proofs.Checks.{checked_or_refused, one_refusal as one_broken}
-use Rattle.fw_flow.specs.declared.raw.Declared.{Declared}
+use Rattle.fw_flow.specs.Declaring.{Declared}
 use Rattle.fw_flow.specs.Check.{IsChecked, IsFirstBroken}
 use Rattle.fw_flow.specs.Dataflow.{Dataflow}
+use Rattle.fw_flow.specs.Expand.{expand}
 use Rattle.fw_flow.specs.Raw.{flow_of_declarations}
 use Rattle.fw_flow_text.specs.Grammar.{Declare, BreakAfter, Breaks, flow_rules, IsAcceptedFlow, IsRefusedFlow}
 use Rattle.fw_flow_text.proofs.DeclaredLaws.{one_declared, breaks_exact, declared_sound}
@@ -52,7 +53,7 @@ read_all lines raw read =
 
 -- what the declarations of all lines give, the text gives
 pub checked_all : (text : List ℕ) (left : List Said) (raw : List Declared) (result : Result Dataflow ReadFault) → length text ≤ 1048576 → IsRead (said_lines text) left raw → left ≡ []
-    → MatchResult result (IsChecked raw) (IfRefused (IsFirstBroken raw)) → MatchResult result (IsAcceptedFlow text) (IfRefused (IsRefusedFlow text))
+    → MatchResult result (IsChecked (expand raw)) (IfRefused (IsFirstBroken (expand raw))) → MatchResult result (IsAcceptedFlow text) (IfRefused (IsRefusedFlow text))
 checked_all text left raw (Ok flow) size read e checked =
     let all = read_all (said_lines text) raw (subst (λ ls. IsRead (said_lines text) ls raw) e read) in
     record { sound = record { size = size; lines = all.0 }; declared = raw; written = all.1; checked = checked }
@@ -68,11 +69,11 @@ pub accepted_or_refused : (text : List ℕ) (flow : Dataflow) (refusal : Refusal
 accepted_or_refused text flow refusal accepted (inl first) = sound_or_refused flow_rules text refusal accepted.sound first
 accepted_or_refused text flow refusal accepted (inr other) =
     let same = one_declared (said_lines text) other.declared accepted.declared other.written accepted.written in
-    checked_or_refused accepted.declared flow refusal accepted.checked (subst (λ ds. IsFirstBroken ds refusal) same other.broken)
+    checked_or_refused (expand accepted.declared) flow refusal accepted.checked (subst (λ ds. IsFirstBroken (expand ds) refusal) same other.broken)
 
 -- an accepted text has one dataflow
 pub one_flow : (text : List ℕ) (first second : Dataflow) → IsAcceptedFlow text first → IsAcceptedFlow text second → first ≡ second
-one_flow text first second a b = a.checked.value ∙ ap flow_of_declarations (one_declared (said_lines text) a.declared b.declared a.written b.written) ∙ sym b.checked.value
+one_flow text first second a b = a.checked.value ∙ ap (λ ds. flow_of_declarations (expand ds)) (one_declared (said_lines text) a.declared b.declared a.written b.written) ∙ sym b.checked.value
 
 -- a text is refused by one rule at one line
 pub one_refusal : (text : List ℕ) (first second : Refusal) → IsRefusedFlow text first → IsRefusedFlow text second → first ≡ second
@@ -81,13 +82,13 @@ one_refusal text first second (inl a) (inr b) = absurd (sound_or_refused flow_ru
 one_refusal text first second (inr a) (inl b) = absurd (sound_or_refused flow_rules text second a.sound b)
 one_refusal text first second (inr a) (inr b) =
     let same = one_declared (said_lines text) b.declared a.declared b.written a.written in
-    one_broken a.declared first second a.broken (subst (λ ds. IsFirstBroken ds second) same b.broken)
+    one_broken (expand a.declared) first second a.broken (subst (λ ds. IsFirstBroken (expand ds) second) same b.broken)
 
 -- each text is accepted or refused
 pub some_answer : (text : List ℕ) → ((flow : Dataflow) × IsAcceptedFlow text flow) ⊎ ((refusal : Refusal) × IsRefusedFlow text refusal)
 some_answer text = elim (sound_or_some_refusal flow_rules text breaks_exact) [
   | inl sound ↦ let all = declared_sound (said_lines text) sound.lines in
-      elim (some_checked all.0) [
+      elim (some_checked (expand all.0)) [
         | inl checked ↦ inl (checked.0, record { sound = sound; declared = all.0; written = all.1; checked = checked.1 })
         | inr broken ↦ inr (broken.0, inr (record { sound = sound; declared = all.0; written = all.1; broken = broken.1 }))
       ]

@@ -1,6 +1,7 @@
 -- How a line is read: the declaration whose words its words are, if there is one, found from the front. `ReadingLaws` proves that it
 -- is just that one; so it can be told of each line whether it declares something, and what.
-use Rattle.std.specs.Prelude.{ℕ, Bool, true, false, List, [], ◌∷◌, Option, Some, None, codes, if◌then◌else◌}
+use Rattle.std.specs.Prelude.{ℕ, ◌-◌, nat_le, Bool, true, false, ◌&&◌, List, [], ◌∷◌, ◌++◌, length, take, drop, Option, Some, None, codes, if◌then◌else◌}
+use Rattle.std.proofs.Common.{get_or}
 use Rattle.std.specs.Map.{lookup}
 use Rattle.std.specs.Option.{option_and_then, option_map, option_or, option_to_list}
 use Rattle.std.specs.Str.{bytes_eq}
@@ -22,9 +23,9 @@ use Rattle.fw_lines.specs.declared.refusal.Code.TheVariants.{F1, F2, F10}
 use Rattle.fw_lines.specs.Spelling.{is_name, number_of}
 use Rattle.fw_flow.specs.declared.kind.Policy.{Policy}
 use Rattle.fw_flow.specs.declared.kind.Policy.TheVariants.{None as NoPolicy, Lazy, Logged, Eager, Full}
-use Rattle.fw_flow.specs.declared.raw.Declaration.{Declaration}
+use Rattle.fw_flow.specs.Declaring.{Declaration, Declared}
 use Rattle.fw_flow.specs.declared.raw.Declaration.TheVariants.{Loop, Node, Edge}
-use Rattle.fw_flow.specs.declared.raw.Declared.{Declared}
+use Rattle.fw_flow.specs.KeyParts.{may_split}
 use Rattle.fw_flow.specs.Kind.{RawKind}
 use Rattle.fw_flow.specs.declared.kind.Kind.TheVariants.{Input, OutputEpoch, OutputNumber, Select, Concat, Distinct, Join, Sum, Enter, Feedback, Leave, Total, Sequence, Ledger, Regroup}
 use Rattle.fw_flow.specs.Raw.{is_new}
@@ -256,12 +257,44 @@ node_form word rest =
 
 -- ---- declarations
 
-unfoldable pub node_declaration : List (List ℕ) → Option Declaration
-node_declaration (word ∷ kind ∷ rest) = do
-  name ← name_of word
+-- whether the fourth of these words from the end is `split`
+unfoldable pub has_split : List (List ℕ) → Bool
+has_split words = nat_le 4 (length words) && bytes_eq (get_or words (length words - 4) []) (codes "split")
+
+-- the words without it and the number behind it
+abbrev pub without_split : List (List ℕ) → List (List ℕ)
+without_split words = take (length words - 4) words ++ drop (length words - 2) words
+
+-- the form of a node, and the number by which it is split, if it is
+abbrev pub split_form : List ℕ → List (List ℕ) → Option (NodeForm × Option ℕ)
+split_form kind rest = do
+  number ← numeral_of (get_or rest (length rest - 3) [])
+  form ← node_form kind (without_split rest)
+  (if may_split form.kind then Some (form, Some number) else None)
+
+abbrev pub plain_form : List ℕ → List (List ℕ) → Option (NodeForm × Option ℕ)
+plain_form kind rest = do
   form ← node_form kind rest
-  Some (Node name form.kind form.policy)
-node_declaration words = None
+  Some (form, None)
+
+unfoldable pub any_form : List ℕ → List (List ℕ) → Option (NodeForm × Option ℕ)
+any_form kind rest = if has_split rest then split_form kind rest else plain_form kind rest
+
+-- the same, of the word of the kind and the words behind it
+abbrev pub form_in : List (List ℕ) → Option NodeForm
+form_in [] = None
+form_in (kind ∷ rest) = node_form kind rest
+
+abbrev pub any_in : List (List ℕ) → Option (NodeForm × Option ℕ)
+any_in [] = None
+any_in (kind ∷ rest) = any_form kind rest
+
+unfoldable pub node_declaration : List (List ℕ) → Option Declaration
+node_declaration [] = None
+node_declaration (word ∷ words) = do
+  name ← name_of word
+  found ← any_in words
+  Some (Node name found.0.kind found.0.policy found.1 None)
 
 abbrev pub edge_of : List ℕ → List ℕ → List ℕ → Option Declaration
 edge_of first second third = do

@@ -1,5 +1,5 @@
 -- What is read is written so: the words are those of what was read in them.
-use Rattle.std.proofs.Common.{◌≡◌, ℕ, ◌^◌, ◌<◌, ◌==◌, nat_lt, Bool, true, false, not, cond, List, [], ◌∷◌, ◌++◌, length, get_or, Option, Some, None, IfSome, refl, sym, ◌∙◌, ap, subst, arith, codes}
+use Rattle.std.proofs.Common.{◌≡◌, ℕ, ◌-◌, ◌^◌, ◌<◌, ◌==◌, nat_lt, Bool, true, false, not, cond, List, [], ◌∷◌, ◌++◌, length, take, drop, get_or, Option, Some, None, IfSome, refl, sym, ◌∙◌, ap, subst, arith, codes}
 use Rattle.std.proofs.lemmas.Bool.{ltb-true}
 use Rattle.std.proofs.lemmas.Bool.Decides.{nat_tests}
 use Rattle.std.proofs.lemmas.Fmt.{decimal-digits_value}
@@ -27,15 +27,17 @@ use Rattle.fw_lines.specs.Spelling.{is_name, is_numeral, number_of}
 use Rattle.fw_lines.proofs.NumberLaws.{digits_from_numeral}
 use Rattle.fw_flow.specs.declared.kind.Policy.{Policy}
 use Rattle.fw_flow.specs.declared.kind.Policy.TheVariants.{None as NoPolicy}
-use Rattle.fw_flow.specs.declared.raw.Declaration.{Declaration}
+use Rattle.fw_flow.specs.Declaring.{Declaration}
 use Rattle.fw_flow.specs.declared.raw.Declaration.TheVariants.{Loop, Node, Edge}
+use Rattle.fw_flow.specs.KeyParts.{may_split}
 use Rattle.fw_flow.specs.Kind.{RawKind}
 use Rattle.fw_flow.specs.declared.kind.Kind.TheVariants.{Select, Regroup}
 use Rattle.fw_flow.specs.KindText.{policy_text}
 use Rattle.fw_flow_text.specs.declared.node.NodeForm.{NodeForm}
 use Rattle.fw_flow_text.specs.Grammar.{AreWordsOf}
-use Rattle.fw_flow_text.specs.Spelled.{field_word, comparison_word, term_word, value_words, assignment_words, condition_words, selection_words, policy_words, ending_words, node_words, parent_words, IsSmallTerm, IsSmallValue, IsSmallAssignment, IsSmall, IsName, IsWritableNode}
-use Rattle.fw_flow_text.proofs.Reading.{value_in, numeral_of, named_by, fields, field_of, comparisons, comparison_of, term_from, term_of, value_from, name_of, policies, policy_named, policy_at_end, ending_within, ending_outside, ending_of, parent_named, parent_at_end, condition_of, sum_value, plain_value, with_rest, value_part, set_part, assignment_part, selection_part, outputs, kinds_within, kinds_leading, lone_kinds, output_kind, within_kind, leading_kind, lone_kind, input_form, output_form, select_form, regroup_form, within_form, leading_form, lone_form, shape_form, node_form, node_declaration, edge_declaration, loop_of, loop_declaration, declaration_of}
+use Rattle.fw_flow_text.specs.Spelled.{field_word, comparison_word, term_word, value_words, assignment_words, condition_words, selection_words, policy_words, ending_words, node_words, split_words, parent_words, IsSmallTerm, IsSmallValue, IsSmallAssignment, IsSmall, IsName, IsSplitWritten, IsWritableNode}
+use Rattle.fw_flow_text.proofs.Reading.{value_in, numeral_of, named_by, fields, field_of, comparisons, comparison_of, term_from, term_of, value_from, name_of, policies, policy_named, policy_at_end, ending_within, ending_outside, ending_of, parent_named, parent_at_end, condition_of, sum_value, plain_value, with_rest, value_part, set_part, assignment_part, selection_part, outputs, kinds_within, kinds_leading, lone_kinds, output_kind, within_kind, leading_kind, lone_kind, input_form, output_form, select_form, regroup_form, within_form, leading_form, lone_form, shape_form, node_form, node_declaration, edge_declaration, loop_of, loop_declaration, declaration_of, any_form, any_in, has_split, plain_form, split_form, without_split}
+use Rattle.fw_flow_text.proofs.SplitLaws.{cut-split, split_words-there}
 use Rattle.fw_flow_text.proofs.SpelledLaws.{declaration_read, numeral_read}
 
 -- words that are the same, and others behind them
@@ -435,19 +437,56 @@ node_is word rest form e =
 
 -- ---- declarations
 
+-- the words are those of the node, split or not, which can be written
+record IsAny (words : List (List ℕ)) (found : NodeForm × Option ℕ) : Type 0 where
+  same : words ≡ split_words found.1 (node_words found.0.kind found.0.policy)
+  writable : IsWritableNode found.0.kind found.0.policy
+  splits : IsSplitWritten found.0.kind found.1
+
+-- words with `split` and a number are those of a node, without both, that is split by it
+split_again : (word : List ℕ) (rest : List (List ℕ)) (form : NodeForm) (n : ℕ) → has_split rest ≡ true → get_or rest (length rest - 3) [] ≡ decimal n
+    → IsNode word (without_split rest) form → word ∷ rest ≡ split_words (Some n) (node_words form.kind form.policy)
+split_again word rest form n there number node =
+    let front = take (length rest - 4) rest in
+    let last = drop (length rest - 2) rest in
+    let cut = cut-split rest there in
+    ap (λ ws. word ∷ ws) (cut.0 ∙ ap (λ w. front ++ codes "split" ∷ w ∷ last) number) ∙ sym (split_words-there n (word ∷ front) last cut.1) ∙ ap (split_words (Some n)) node.same
+
+picked_is : (word : List ℕ) (rest : List (List ℕ)) (form : NodeForm) (n : ℕ) (found : NodeForm × Option ℕ) → has_split rest ≡ true → get_or rest (length rest - 3) [] ≡ decimal n → n < 2 ^ 64
+    → IsNode word (without_split rest) form → (b : Bool) → may_split form.kind ≡ b → cond b (Some (form, Some n)) None ≡ Some found → IsAny (word ∷ rest) found
+picked_is word rest form n found there number small node true may e =
+    subst (IsAny (word ∷ rest)) (same_Some (form, Some n) found e)
+    (record { same = split_again word rest form n there number node; writable = node.writable; splits = (may, small) })
+picked_is word rest form n found there number small node false may e = absurd (cc)
+
+any_is : (words : List (List ℕ)) (found : NodeForm × Option ℕ) → any_in words ≡ Some found → IsAny words found
+unfolding any_form
+any_is [] found e = absurd (cc)
+any_is (word ∷ rest) found e = by (has_split rest) refl e
+  where
+    by : (b : Bool) → has_split rest ≡ b → cond b (split_form word rest) (plain_form word rest) ≡ Some found → IsAny (word ∷ rest) found
+    by false h r =
+        option_and_then_some _ (node_form word rest) found r (λ form is_form e₂.
+        let node = node_is word rest form is_form in
+        subst (IsAny (word ∷ rest)) (same_Some (form, None) found e₂) (record { same = node.same; writable = node.writable; splits = tt }))
+    by true h r =
+        option_and_then_some _ (numeral_of (get_or rest (length rest - 3) [])) found r (λ n is_n e₂.
+        option_and_then_some _ (node_form word (without_split rest)) found e₂ (λ form is_form e₃.
+        let number = numeral_is (get_or rest (length rest - 3) []) n is_n in
+        picked_is word rest form n found h number.0 number.1 (node_is word (without_split rest) form is_form) (may_split form.kind) refl e₃))
+
 node_declared : (words : List (List ℕ)) (found : Declaration) → node_declaration words ≡ Some found → AreWordsOf (codes "node" ∷ words) found
 unfolding node_declaration
 node_declared [] found e = absurd (cc)
-node_declared (word ∷ []) found e = absurd (cc)
-node_declared (word ∷ kind ∷ rest) found e =
+node_declared (word ∷ words) found e =
     option_and_then_some _ (name_of word) found e (λ name is_n e₂.
-    option_and_then_some _ (node_form kind rest) found e₂ (λ form is_form e₃.
+    option_and_then_some _ (any_in words) found e₂ (λ form is_form e₃.
     let spelled = name_is word name is_n in
-    let node = node_is kind rest form is_form in
-    subst (AreWordsOf (codes "node" ∷ word ∷ kind ∷ rest)) (same_Some (Node name form.kind form.policy) found e₃)
+    let node = any_is words form is_form in
+    subst (AreWordsOf (codes "node" ∷ word ∷ words)) (same_Some (Node name form.0.kind form.0.policy form.1 None) found e₃)
     (record {
-      same = ap (λ ws. codes "node" ∷ ws) (both word name (kind ∷ rest) (node_words form.kind form.policy) spelled.0 node.same);
-      writable = (spelled.1, node.writable);
+      same = ap (λ ws. codes "node" ∷ ws) (both word name words (split_words form.1 (node_words form.0.kind form.0.policy)) spelled.0 node.same);
+      writable = (spelled.1, node.writable, node.splits, refl);
     })))
 
 edge_declared : (words : List (List ℕ)) (found : Declaration) → edge_declaration words ≡ Some found → AreWordsOf (codes "edge" ∷ words) found

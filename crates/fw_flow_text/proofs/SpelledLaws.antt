@@ -1,17 +1,12 @@
 -- What is written is read as what it was, from the front.
-use Rattle.std.proofs.Common.{◌≡◌, ℕ, ◌+◌, ◌%◌, ◌<◌, ◌^◌, Bool, true, false, ◌&&◌, cond, not, ◌==◌, List, [], ◌∷◌, ◌++◌, Option, Some, None, refl, sym, ◌∙◌, ap, arith, codes, nat_lt, get_or, inl, inr, IfSome}
-use Rattle.std.proofs.lemmas.Bool.{cases_lt}
+use Rattle.std.proofs.Common.{◌≡◌, ℕ, ◌+◌, ◌<◌, ◌^◌, Bool, true, false, cond, List, [], ◌∷◌, ◌++◌, length, Option, Some, None, refl, sym, ◌∙◌, ap, arith, codes, nat_lt, IfSome}
 use Rattle.std.proofs.lemmas.Bool.Decides.{nat_tests}
-use Rattle.std.proofs.lemmas.Fmt.{decimal_is_IsNumeral, decimal_by_steps, first_decimal, decimal_digit}
-use Rattle.std.proofs.lemmas.List.Folds.{list_all-append}
+use Rattle.std.proofs.lemmas.Fmt.{decimal_is_IsNumeral}
 use Rattle.std.proofs.lemmas.Slice.Eq.{bytes_eq-Decides}
-use Rattle.std.specs.Char.{is_ascii_digit}
 use Rattle.std.specs.Fmt.{decimal}
-use Rattle.std.specs.List.{list_all}
 use Rattle.std.specs.Option.{option_and_then, option_or}
 use Rattle.std.specs.Str.{bytes_eq}
 use Rattle.std.specs.Str.Parse.{digits_value}
-use Rattle.fw_lemmas.proofs.Bools.{first_holds}
 use Rattle.fw_bag.specs.declared.select.Assignment.{Assignment}
 use Rattle.fw_bag.specs.declared.select.Comparison.{Comparison}
 use Rattle.fw_bag.specs.declared.select.Comparison.TheVariants.{Equal, NotEqual, Less, LessOrEqual, Greater, GreaterOrEqual}
@@ -23,18 +18,22 @@ use Rattle.fw_bag.specs.declared.select.NewValue.TheVariants as new
 use Rattle.fw_bag.specs.declared.select.Selection.{Selection}
 use Rattle.fw_bag.specs.declared.select.Term.{Term}
 use Rattle.fw_bag.specs.declared.select.Term.TheVariants as term
+use Rattle.fw_lines.proofs.DecimalLaws.{decimal_numeral}
 use Rattle.fw_lines.specs.declared.numeral.Number.{Number}
 use Rattle.fw_lines.specs.declared.numeral.Number.TheVariants as number
 use Rattle.fw_lines.specs.Spelling.{is_name, is_numeral, number_of}
 use Rattle.fw_flow.specs.declared.kind.Policy.{Policy}
 use Rattle.fw_flow.specs.declared.kind.Policy.TheVariants as policy
-use Rattle.fw_flow.specs.declared.raw.Declaration.{Declaration}
+use Rattle.fw_flow.specs.Declaring.{Declaration}
 use Rattle.fw_flow.specs.declared.raw.Declaration.TheVariants.{Loop, Node, Edge}
+use Rattle.fw_flow.specs.declared.key_part.KeyPart.{KeyPart}
+use Rattle.fw_flow.specs.KeyParts.{may_split}
 use Rattle.fw_flow.specs.Kind.{RawKind}
 use Rattle.fw_flow.specs.declared.kind.Kind.TheVariants.{Input, OutputEpoch, OutputNumber, Select, Concat, Distinct, Join, Sum, Enter, Feedback, Leave, Total, Sequence, Ledger, Regroup}
 use Rattle.fw_flow_text.specs.declared.node.NodeForm.{NodeForm}
-use Rattle.fw_flow_text.specs.Spelled.{field_word, comparison_word, term_word, value_words, assignment_words, selection_words, policy_words, ending_words, node_words, parent_words, declaration_words, IsSmallTerm, IsSmallValue, IsSmallAssignment, IsSmall, IsName, IsWritableNode, IsWritable}
-use Rattle.fw_flow_text.proofs.Reading.{value_in, numeral_of, field_of, comparison_of, term_of, term_from, value_from, name_of, policy_named, policy_at_end, ending_within, ending_outside, ending_of, parent_named, parent_at_end, condition_of, sum_value, plain_value, with_rest, value_part, assignment_part, selection_part, output_kind, within_kind, leading_kind, lone_kind, input_form, output_form, select_form, regroup_form, within_form, leading_form, lone_form, shape_form, node_form, node_declaration, edge_declaration, loop_of, loop_declaration, declaration_of}
+use Rattle.fw_flow_text.specs.Spelled.{field_word, comparison_word, term_word, value_words, assignment_words, selection_words, policy_words, ending_words, node_words, split_words, parent_words, declaration_words, IsSmallTerm, IsSmallValue, IsSmallAssignment, IsSmall, IsName, IsSplitWritten, IsWritableNode, IsWritable}
+use Rattle.fw_flow_text.proofs.SplitLaws.{behind, has_split-there, no_split-node, node_head, number-there, policy_last, split_words-there, without-there}
+use Rattle.fw_flow_text.proofs.Reading.{value_in, numeral_of, field_of, comparison_of, term_of, term_from, value_from, name_of, policy_named, policy_at_end, ending_within, ending_outside, ending_of, parent_named, parent_at_end, condition_of, sum_value, plain_value, with_rest, value_part, assignment_part, selection_part, output_kind, within_kind, leading_kind, lone_kind, input_form, output_form, select_form, regroup_form, within_form, leading_form, lone_form, shape_form, node_form, form_in, has_split, without_split, split_form, plain_form, any_form, any_in, node_declaration, edge_declaration, loop_of, loop_declaration, declaration_of}
 
 named : (name : List ℕ) → is_name name ≡ true → name_of name ≡ Some name
 named name e = ap (λ b. cond b (Some name) None) e
@@ -52,35 +51,6 @@ comparison_read Less = refl
 comparison_read LessOrEqual = refl
 comparison_read Greater = refl
 comparison_read GreaterOrEqual = refl
-
-all_digits-one : (n : ℕ) → n < 10 → list_all is_ascii_digit ((48 + n) ∷ []) ≡ true
-all_digits-one n h = grind (arith, nat_tests, h)
-
-all_digits-more : (n : ℕ) (ds : List ℕ) → list_all is_ascii_digit ds ≡ true → list_all is_ascii_digit (ds ++ (48 + n % 10) ∷ []) ≡ true
-all_digits-more n ds e =
-    list_all-append is_ascii_digit ds ((48 + n % 10) ∷ [])
-    ∙ ap (λ b. b && list_all is_ascii_digit ((48 + n % 10) ∷ [])) e
-    ∙ all_digits-one (n % 10) (omega arith)
-
--- a number is written by digits
-pub decimal_digits : (n : ℕ) → n < 2 ^ 64 → list_all is_ascii_digit (decimal n) ≡ true
-decimal_digits n h = decimal_by_steps (λ m ds. list_all is_ascii_digit ds ≡ true) all_digits-one (λ m ds low e. all_digits-more m ds e) n h
-
-not_zero : (b : ℕ) → 48 < b → not (b == 48) ≡ true
-not_zero b h = grind (arith, nat_tests, h)
-
-numeral_from : (ds : List ℕ) → list_all is_ascii_digit ds ≡ true → 48 < get_or ds 0 0 → is_numeral ds ≡ true
-numeral_from [] e h = absurd (omega arith)
-numeral_from (b ∷ []) e h = first_holds (is_ascii_digit b) true e
-numeral_from (b ∷ c ∷ bs) e h = ap (λ t. t && list_all is_ascii_digit (b ∷ c ∷ bs)) (not_zero b h) ∙ e
-
--- the digits of a number are a numeral
-pub decimal_numeral : (n : ℕ) → n < 2 ^ 64 → is_numeral (decimal n) ≡ true
-decimal_numeral n h =
-    elim (cases_lt n 10) [
-      | inl small ↦ ap is_numeral (decimal_digit n small) ∙ first_holds (is_ascii_digit (48 + n)) true (all_digits-one n small)
-      | inr large ↦ numeral_from (decimal n) (decimal_digits n h) (first_decimal n (omega (arith, large)) h)
-    ]
 
 is_small : (n : ℕ) → n < 2 ^ 64 → nat_lt n (2 ^ 64) ≡ true
 is_small n h = grind (arith, nat_tests, h)
@@ -273,31 +243,68 @@ shape_lone word k p none nowhere e =
 unwritten : (k : RawKind) (p : Policy) → p ≡ policy.None → Some (form_of k policy.None) ≡ Some (form_of k p)
 unwritten k p e = ap (λ q. Some (form_of k q)) (sym e)
 
--- the node of a name, from its form
-node_from : (name word : List ℕ) (rest : List (List ℕ)) (k : RawKind) (p : Policy) → IsName name → node_form word rest ≡ Some (form_of k p) → node_declaration (name ∷ word ∷ rest) ≡ Some (Node name k p)
-unfolding node_declaration
-node_from name word rest k p e form =
-    let whole : List ℕ → NodeForm → Option Declaration = λ n f. Some (Node n f.kind f.policy) in
-    ap (option_and_then (λ n. option_and_then (whole n) (node_form word rest))) (named name e)
-    ∙ ap (option_and_then (whole name)) form
-
-node_read : (name : List ℕ) (k : RawKind) (p : Policy) → IsName name → IsWritableNode k p → node_declaration (name ∷ node_words k p) ≡ Some (Node name k p)
+-- a node that can be written is read of its words
+pub form_read : (k : RawKind) (p : Policy) → IsWritableNode k p → form_in (node_words k p) ≡ Some (form_of k p)
 unfolding node_form input_form output_form output_kind within_kind leading_kind lone_kind
-node_read name Input p e w = node_from name (codes "input") [] Input p e (unwritten Input p w.written)
-node_read name OutputEpoch p e w = node_from name (codes "output") (codes "epoch" ∷ []) OutputEpoch p e (unwritten OutputEpoch p w.written)
-node_read name OutputNumber p e w = node_from name (codes "output") (codes "number" ∷ []) OutputNumber p e (unwritten OutputNumber p w.written)
-node_read name (Select s within) p e w = node_from name (codes "select") (selection_words s ++ ending_words within p) (Select s within) p e (select_read s within p w.numbers w.loop_name)
-node_read name (Concat within) p e w = node_from name (codes "concat") (ending_words within p) (Concat within) p e (shape_within (codes "concat") (λ l. Concat l) within p (λ l. refl) w.loop_name)
-node_read name (Distinct within) p e w = node_from name (codes "distinct") (ending_words within p) (Distinct within) p e (shape_within (codes "distinct") (λ l. Distinct l) within p (λ l. refl) w.loop_name)
-node_read name (Join within) p e w = node_from name (codes "join") (ending_words within p) (Join within) p e (shape_within (codes "join") (λ l. Join l) within p (λ l. refl) w.loop_name)
-node_read name (Sum within) p e w = node_from name (codes "sum") (ending_words within p) (Sum within) p e (shape_within (codes "sum") (λ l. Sum l) within p (λ l. refl) w.loop_name)
-node_read name (Enter l) p e w = node_from name (codes "enter") (l ∷ policy_words p) (Enter l) p e (shape_leading (codes "enter") (λ n. Enter n) l p (λ o. refl) (λ n. refl) w.loop_name)
-node_read name (Feedback l) p e w = node_from name (codes "feedback") (l ∷ policy_words p) (Feedback l) p e (shape_leading (codes "feedback") (λ n. Feedback n) l p (λ o. refl) (λ n. refl) w.loop_name)
-node_read name (Leave l) p e w = node_from name (codes "leave") (l ∷ policy_words p) (Leave l) p e (shape_leading (codes "leave") (λ n. Leave n) l p (λ o. refl) (λ n. refl) w.loop_name)
-node_read name Total p e w = node_from name (codes "total") (policy_words p) Total p e (shape_lone (codes "total") Total p (λ o. refl) (λ n. refl) refl)
-node_read name Sequence p e w = node_from name (codes "sequence") (policy_words p) Sequence p e (shape_lone (codes "sequence") Sequence p (λ o. refl) (λ n. refl) refl)
-node_read name Ledger p e w = node_from name (codes "ledger") (policy_words p) Ledger p e (shape_lone (codes "ledger") Ledger p (λ o. refl) (λ n. refl) refl)
-node_read name (Regroup n) p e w = node_from name (codes "regroup") (decimal n ∷ policy_words p) (Regroup n) p e (regroup_read n p w.numbers)
+form_read Input p w = unwritten Input p w.written
+form_read OutputEpoch p w = unwritten OutputEpoch p w.written
+form_read OutputNumber p w = unwritten OutputNumber p w.written
+form_read (Select s within) p w = select_read s within p w.numbers w.loop_name
+form_read (Concat within) p w = shape_within (codes "concat") (λ l. Concat l) within p (λ l. refl) w.loop_name
+form_read (Distinct within) p w = shape_within (codes "distinct") (λ l. Distinct l) within p (λ l. refl) w.loop_name
+form_read (Join within) p w = shape_within (codes "join") (λ l. Join l) within p (λ l. refl) w.loop_name
+form_read (Sum within) p w = shape_within (codes "sum") (λ l. Sum l) within p (λ l. refl) w.loop_name
+form_read (Enter l) p w = shape_leading (codes "enter") (λ n. Enter n) l p (λ o. refl) (λ n. refl) w.loop_name
+form_read (Feedback l) p w = shape_leading (codes "feedback") (λ n. Feedback n) l p (λ o. refl) (λ n. refl) w.loop_name
+form_read (Leave l) p w = shape_leading (codes "leave") (λ n. Leave n) l p (λ o. refl) (λ n. refl) w.loop_name
+form_read Total p w = shape_lone (codes "total") Total p (λ o. refl) (λ n. refl) refl
+form_read Sequence p w = shape_lone (codes "sequence") Sequence p (λ o. refl) (λ n. refl) refl
+form_read Ledger p w = shape_lone (codes "ledger") Ledger p (λ o. refl) (λ n. refl) refl
+form_read (Regroup n) p w = regroup_read n p w.numbers
+
+-- ---- nodes that are split
+
+-- where no word is `split`, a node is read that is not split
+pub any-whole : (word : List ℕ) (rest : List (List ℕ)) (form : NodeForm) → has_split rest ≡ false → node_form word rest ≡ Some form → any_form word rest ≡ Some (form, None)
+unfolding any_form
+any-whole word rest form e h =
+    let whole : NodeForm → Option (NodeForm × Option ℕ) = λ f. Some (f, None) in
+    ap (λ b. cond b (split_form word rest) (plain_form word rest)) e ∙ ap (option_and_then whole) h
+
+-- else one that is split by the number behind it
+pub any-split : (word : List ℕ) (xs ys : List (List ℕ)) (n : ℕ) (form : NodeForm) → length ys ≡ 2 → n < 2 ^ 64 → node_form word (xs ++ ys) ≡ Some form → may_split form.kind ≡ true
+    → any_form word (xs ++ codes "split" ∷ decimal n ∷ ys) ≡ Some (form, Some n)
+unfolding any_form
+any-split word xs ys n form two small h may =
+    let rest = xs ++ codes "split" ∷ decimal n ∷ ys in
+    let pick : ℕ → NodeForm → Option (NodeForm × Option ℕ) = λ m f. cond (may_split f.kind) (Some (f, Some m)) None in
+    ap (λ b. cond b (split_form word rest) (plain_form word rest)) (has_split-there xs (decimal n) ys two)
+    ∙ ap (λ w. option_and_then (λ m. option_and_then (pick m) (node_form word (without_split rest))) (numeral_of w)) (number-there xs (decimal n) ys two)
+    ∙ ap (option_and_then (λ m. option_and_then (pick m) (node_form word (without_split rest)))) (numeral_read n small)
+    ∙ ap (λ ws. option_and_then (pick n) (node_form word ws)) (without-there xs (decimal n) ys two)
+    ∙ ap (option_and_then (pick n)) h
+    ∙ ap (λ b. cond b (Some (form, Some n)) None) may
+
+-- a node that can be written, split or not, is read of its words
+pub any_read : (k : RawKind) (p : Policy) (split : Option ℕ) → IsWritableNode k p → IsSplitWritten k split → any_in (split_words split (node_words k p)) ≡ Some (form_of k p, split)
+any_read k p None w s =
+    let head = node_head k p in
+    ap any_in head.1 ∙ any-whole head.0 (behind (node_words k p)) (form_of k p) (no_split-node k p) (ap form_in (sym head.1) ∙ form_read k p w)
+any_read k p (Some n) w s =
+    let last = policy_last k p s.0 in
+    let words = last.between ++ policy_words p in
+    ap (λ ws. any_in (split_words (Some n) ws)) last.same
+    ∙ ap any_in (split_words-there n (last.word ∷ last.between) (policy_words p) refl)
+    ∙ any-split last.word last.between (policy_words p) n (form_of k p) refl s.1 (ap form_in (sym last.same) ∙ form_read k p w) s.0
+
+node_read : (name : List ℕ) (k : RawKind) (p : Policy) (split : Option ℕ) (part : Option KeyPart) → IsName name → IsWritableNode k p → IsSplitWritten k split → part ≡ None
+    → node_declaration (name ∷ split_words split (node_words k p)) ≡ Some (Node name k p split part)
+unfolding node_declaration
+node_read name k p split part e w s none =
+    let whole : List ℕ → NodeForm × Option ℕ → Option Declaration = λ n f. Some (Node n f.0.kind f.0.policy f.1 None) in
+    ap (option_and_then (λ n. option_and_then (whole n) (any_in (split_words split (node_words k p))))) (named name e)
+    ∙ ap (option_and_then (whole name)) (any_read k p split w s)
+    ∙ ap (λ q. Some (Node name k p split q)) (sym none)
 
 -- ---- declarations
 
@@ -321,5 +328,5 @@ loop_read name max parent e small h =
 pub declaration_read : (declaration : Declaration) → IsWritable declaration → declaration_of (declaration_words declaration) ≡ Some declaration
 unfolding declaration_of
 declaration_read (Loop name max parent) w = loop_read name max parent w.0 w.1 w.2
-declaration_read (Node name k p) w = node_read name k p w.0 w.1
+declaration_read (Node name k p split part) w = node_read name k p split part w.0 w.1 w.2 w.3
 declaration_read (Edge name sender receiver) w = edge_read name sender receiver w.0 w.1 w.2

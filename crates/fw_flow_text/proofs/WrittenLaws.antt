@@ -1,20 +1,18 @@
 -- The text of a flow is read as that flow.
-use Rattle.std.proofs.Common.{◌≡◌, ℕ, zero, suc, ◌+◌, ◌<◌, ◌≤◌, ◌^◌, Bool, true, false, ◌&&◌, ◌||◌, not, cond, List, [], ◌∷◌, ◌++◌, length, map, get_or, refl, sym, ◌∙◌, ap, subst, append_assoc, arith, Option, Some, None, IfSome, inl, inr}
-use Rattle.std.proofs.lemmas.Bool.{cases_lt}
+use Rattle.std.proofs.Common.{◌≡◌, ℕ, ◌+◌, ◌<◌, ◌≤◌, true, false, ◌&&◌, List, [], ◌∷◌, ◌++◌, length, map, get_or, refl, sym, ◌∙◌, ap, subst, append_assoc, arith, Option, Some, None, IfSome}
 use Rattle.std.proofs.lemmas.List.{append-nil, get_or-map, length-map}
-use Rattle.std.proofs.lemmas.List.Folds.{list_all-append}
 use Rattle.std.proofs.lemmas.List.FromFn.{fill_by_all}
 use Rattle.std.proofs.lemmas.List.Sums.{position_or_len_is}
 use Rattle.std.proofs.lemmas.Grind.{flat_map-append}
 use Rattle.std.proofs.lemmas.Map.Keys.{apart_from_distinct}
 use Rattle.std.proofs.lemmas.Slice.Eq.{bytes_eq-Decides}
-use Rattle.std.specs.List.{AllByRecursion, IsDistinct, flat_map, list_all, list_any, range_with_len}
+use Rattle.std.specs.List.{AllByRecursion, IsDistinct, flat_map, list_all, range_with_len}
 use Rattle.std.specs.Option.{option_and_then, option_map}
 use Rattle.std.specs.Str.{bytes_eq}
-use Rattle.fw_lemmas.proofs.Each.{each-append, each-at, each-of_places}
+use Rattle.fw_lemmas.proofs.Each.{each-append, each-at, each-map, each-of_places, each-one}
 use Rattle.fw_lines.specs.Lines.{Said, said_lines}
 use Rattle.fw_lines.specs.Spelling.{is_name}
-use Rattle.fw_lines.specs.Written.{WordLine, is_plain_line, line_text, numbered, text_of}
+use Rattle.fw_lines.specs.Written.{is_plain_line, line_text, numbered, text_of}
 use Rattle.fw_lines.proofs.WrittenLaws.{said_lines-text_of}
 use Rattle.fw_flow.specs.Kind.{Kind, loop_of_kind}
 use Rattle.fw_flow.specs.declared.kind.Kind.TheVariants as kind
@@ -23,19 +21,20 @@ use Rattle.fw_flow.specs.declared.kind.Policy.TheVariants as policy
 use Rattle.fw_flow.specs.declared.node.Edge.{Edge}
 use Rattle.fw_flow.specs.declared.node.Loop.{Loop}
 use Rattle.fw_flow.specs.declared.node.Node.{Node}
-use Rattle.fw_flow.specs.declared.raw.Declaration.{Declaration}
+use Rattle.fw_flow.specs.Declaring.{Declaration}
 use Rattle.fw_flow.specs.declared.raw.Declaration.TheVariants as declares
-use Rattle.fw_flow.specs.declared.raw.Declared.{Declared}
+use Rattle.fw_flow.specs.Declaring.{Declared}
 use Rattle.fw_flow.specs.Dataflow.{Dataflow, node_at, kind_of, policy_of, sender, receiver, max_of, declared_parent, idle_node}
-use Rattle.fw_flow.specs.DomainText.{name_of_edge, name_of_loop}
-use Rattle.fw_flow.specs.Names.{has_name}
+use Rattle.fw_flow.specs.DomainText.{name_of_loop}
 use Rattle.fw_flow.specs.Raw.{edge_in, edge_name, edge_names, flow_of_declarations, is_new, loop_in, loop_name, loop_names, node_in, node_name, node_names, place_or_end, resolved_kind}
 use Rattle.fw_flow.specs.KeyParts.{HasNoReplicas}
-use Rattle.fw_flow.specs.WellFormed.{IsGroupSize, IsLoopDeclared, IsParentDeclared, IsPolicyAllowed, IsWellFormed}
+use Rattle.fw_flow.proofs.ExpandLaws.{AreWhole, checked-whole, is_whole}
+use Rattle.fw_flow.proofs.NewLaws.{AreOnce, is_new_behind, other_way}
+use Rattle.fw_flow.specs.WellFormed.{IsLoopDeclared, IsPolicyAllowed, IsWellFormed}
 use Rattle.fw_flow.proofs.KindLaws.{kind_map-back, loop_of_kind-map}
-use Rattle.fw_flow_text.specs.FlowText.{declared_edge, declared_loop, declared_node, edge_line_of, edge_lines_text, loop_line_of, loop_lines_text, named_kind, node_line_of, node_lines_text, text_of_flow}
-use Rattle.fw_flow_text.specs.Grammar.{capped, flow_size_limit, is_large_number, IsAcceptedFlow}
-use Rattle.fw_flow_text.specs.Spelled.{declaration_words, IsName, IsPolicyWritten, IsSmall, IsSmallKind, IsWritable, IsWritableNode}
+use Rattle.fw_flow_text.specs.FlowText.{declared_edge, declared_loop, declared_node, edge_lines_text, named_kind, node_lines_text, text_of_flow}
+use Rattle.fw_flow_text.specs.Grammar.{flow_size_limit, IsAcceptedFlow}
+use Rattle.fw_flow_text.specs.Spelled.{declaration_words, IsName, IsPolicyWritten, IsSmallKind, IsWritable, IsWritableNode}
 use Rattle.fw_flow_text.proofs.DeclaredLaws.{after_line, fault_after, formed, known_lines, on_line, read_lines, small_words}
 use Rattle.fw_flow_text.proofs.PlainLaws.{plain_declaration, small_declaration}
 use Rattle.fw_flow_text.proofs.Reading.{declaration_of, declared_in, name_fault}
@@ -77,42 +76,6 @@ all_read raw number (d ∷ ds) w new =
 
 -- ---- distinct names are new
 
--- names that differ one way differ the other way
-pub other_way : (a b : List ℕ) → bytes_eq a b ≡ false → bytes_eq b a ≡ false
-other_way a b h = by (bytes_eq b a) refl
-  where
-    by : (c : Bool) → bytes_eq b a ≡ c → c ≡ false
-    by false e = refl
-    by true e = let same = (bytes_eq-Decides b a).0 e in sym ((bytes_eq-Decides a b).1 (sym same)) ∙ h
-
--- of distinct names each is new behind those before it
-new_behind : (before : List (List ℕ)) (name : List ℕ) (behind : List (List ℕ)) → IsDistinct bytes_eq (before ++ name ∷ behind) → has_name name before ≡ false
-unfolding IsDistinct
-new_behind [] name behind once = refl
-new_behind (first ∷ before) name behind once =
-    ap (λ b. b || list_any (bytes_eq name) before) (other_way first name (among before once.0)) ∙ new_behind before name behind once.1
-  where
-    among : (xs : List (List ℕ)) → AllByRecursion (λ y. bytes_eq first y ≡ false) (xs ++ name ∷ behind) → bytes_eq first name ≡ false
-    among [] h = h.0
-    among (x ∷ xs) h = among xs h.1
-
--- the names of the three spaces are distinct
-record AreOnce (raw : List Declared) : Type 0 where
-  loops : IsDistinct bytes_eq (loop_names raw)
-  nodes : IsDistinct bytes_eq (node_names raw)
-  edges : IsDistinct bytes_eq (edge_names raw)
-
-is_new_behind : (raw : List Declared) (number : ℕ) (d : Declaration) (rest : List Declared) → AreOnce (raw ++ on_line number d ∷ rest) → is_new raw d ≡ true
-is_new_behind raw number (declares.Loop name max parent) rest once =
-    let names = flat_map-append loop_name raw (on_line number (declares.Loop name max parent) ∷ rest) in
-    ap not (new_behind (loop_names raw) name (loop_names rest) (subst (IsDistinct bytes_eq) names once.loops))
-is_new_behind raw number (declares.Node name k p) rest once =
-    let names = flat_map-append node_name raw (on_line number (declares.Node name k p) ∷ rest) in
-    ap not (new_behind (node_names raw) name (node_names rest) (subst (IsDistinct bytes_eq) names once.nodes))
-is_new_behind raw number (declares.Edge name s r) rest once =
-    let names = flat_map-append edge_name raw (on_line number (declares.Edge name s r) ∷ rest) in
-    ap not (new_behind (edge_names raw) name (edge_names rest) (subst (IsDistinct bytes_eq) names once.edges))
-
 all_new : (raw : List Declared) (number : ℕ) (ds : List Declaration) → AreOnce (raw ++ lined number ds) → AreNewAfter raw number ds
 all_new raw number [] once = tt
 all_new raw number (d ∷ ds) once =
@@ -125,7 +88,7 @@ abbrev of_loop : Dataflow → Loop → Declaration
 of_loop flow l = declares.Loop l.name l.max (option_map (name_of_loop flow) l.parent)
 
 abbrev of_node : Dataflow → Node → Declaration
-of_node flow n = declares.Node n.name (named_kind flow n.kind) n.policy
+of_node flow n = declares.Node n.name (named_kind flow n.kind) n.policy None None
 
 abbrev of_edge : Dataflow → Edge → Declaration
 of_edge flow e = declares.Edge e.name (node_at flow e.sender).name (node_at flow e.receiver).name
@@ -210,17 +173,17 @@ map_same (x ∷ xs) = ap (λ ys. x ∷ ys) (map_same xs)
 -- names
 abbrev given_loop_name : Declaration → List (List ℕ)
 given_loop_name (declares.Loop name max parent) = name ∷ []
-given_loop_name (declares.Node name k p) = []
+given_loop_name (declares.Node name k p split part) = []
 given_loop_name (declares.Edge name s r) = []
 
 abbrev given_node_name : Declaration → List (List ℕ)
 given_node_name (declares.Loop name max parent) = []
-given_node_name (declares.Node name k p) = name ∷ []
+given_node_name (declares.Node name k p split part) = name ∷ []
 given_node_name (declares.Edge name s r) = []
 
 abbrev given_edge_name : Declaration → List (List ℕ)
 given_edge_name (declares.Loop name max parent) = []
-given_edge_name (declares.Node name k p) = []
+given_edge_name (declares.Node name k p split part) = []
 given_edge_name (declares.Edge name s r) = name ∷ []
 
 abbrev raw_of : Dataflow → List Declared
@@ -236,7 +199,7 @@ loop_names_of flow =
   where
     same : (number : ℕ) (d : Declaration) → loop_name (on_line number d) ≡ given_loop_name d
     same number (declares.Loop name max parent) = refl
-    same number (declares.Node name k p) = refl
+    same number (declares.Node name k p split part) = refl
     same number (declares.Edge name s r) = refl
 
 node_names_of : (flow : Dataflow) → node_names (raw_of flow) ≡ map (λ (n : Node). n.name) flow.nodes
@@ -250,7 +213,7 @@ node_names_of flow =
   where
     same : (number : ℕ) (d : Declaration) → node_name (on_line number d) ≡ given_node_name d
     same number (declares.Loop name max parent) = refl
-    same number (declares.Node name k p) = refl
+    same number (declares.Node name k p split part) = refl
     same number (declares.Edge name s r) = refl
 
 edge_names_of : (flow : Dataflow) → edge_names (raw_of flow) ≡ map (λ (e : Edge). e.name) flow.edges
@@ -263,7 +226,7 @@ edge_names_of flow =
   where
     same : (number : ℕ) (d : Declaration) → edge_name (on_line number d) ≡ given_edge_name d
     same number (declares.Loop name max parent) = refl
-    same number (declares.Node name k p) = refl
+    same number (declares.Node name k p split part) = refl
     same number (declares.Edge name s r) = refl
 
 -- the place of a name among distinct ones is its own
@@ -313,17 +276,17 @@ kind_resolved flow h k there = kind_map-back (name_of_loop flow) (place_or_end (
 
 abbrev given_loop : List (List ℕ) → Declaration → List Loop
 given_loop names (declares.Loop name max parent) = record { name = name; max = max; parent = option_map (place_or_end names) parent } ∷ []
-given_loop names (declares.Node name k p) = []
+given_loop names (declares.Node name k p split part) = []
 given_loop names (declares.Edge name s r) = []
 
 abbrev given_node : List (List ℕ) → Declaration → List Node
 given_node names (declares.Loop name max parent) = []
-given_node names (declares.Node name k p) = record { name = name; kind = resolved_kind names k; policy = p; part = None } ∷ []
+given_node names (declares.Node name k p split part) = record { name = name; kind = resolved_kind names k; policy = p; part = part } ∷ []
 given_node names (declares.Edge name s r) = []
 
 abbrev given_edge : List (List ℕ) → Declaration → List Edge
 given_edge names (declares.Loop name max parent) = []
-given_edge names (declares.Node name k p) = []
+given_edge names (declares.Node name k p split part) = []
 given_edge names (declares.Edge name s r) = record { name = name; sender = place_or_end names s; receiver = place_or_end names r } ∷ []
 
 loops_back : (flow : Dataflow) → CanBeWritten flow → flat_map (loop_in (loop_names_in flow)) (raw_of flow) ≡ flow.loops
@@ -342,7 +305,7 @@ loops_back flow h =
   where
     same : (names : List (List ℕ)) (number : ℕ) (d : Declaration) → loop_in names (on_line number d) ≡ given_loop names d
     same names number (declares.Loop name max parent) = refl
-    same names number (declares.Node name k p) = refl
+    same names number (declares.Node name k p split part) = refl
     same names number (declares.Edge name s r) = refl
 
 nodes_back : (flow : Dataflow) → CanBeWritten flow → flat_map (node_in (loop_names_in flow)) (raw_of flow) ≡ flow.nodes
@@ -364,7 +327,7 @@ nodes_back flow h =
   where
     same : (names : List (List ℕ)) (number : ℕ) (d : Declaration) → node_in names (on_line number d) ≡ given_node names d
     same names number (declares.Loop name max parent) = refl
-    same names number (declares.Node name k p) = refl
+    same names number (declares.Node name k p split part) = refl
     same names number (declares.Edge name s r) = refl
 
 edges_back : (flow : Dataflow) → CanBeWritten flow → flat_map (edge_in (node_names_in flow)) (raw_of flow) ≡ flow.edges
@@ -385,7 +348,7 @@ edges_back flow h =
   where
     same : (names : List (List ℕ)) (number : ℕ) (d : Declaration) → edge_in names (on_line number d) ≡ given_edge names d
     same names number (declares.Loop name max parent) = refl
-    same names number (declares.Node name k p) = refl
+    same names number (declares.Node name k p split part) = refl
     same names number (declares.Edge name s r) = refl
 
 -- the declarations of a flow are those of that flow
@@ -443,7 +406,7 @@ nodes_writable flow h =
     (each-of_places (λ n. IsWritable (of_node flow n)) idle_node flow.nodes
     (λ p lt.
     let n = get_or flow.nodes p idle_node in
-    (node_named flow h p lt, node_writable flow h n.kind n.policy (h.well_formed.loops_declared p lt) (h.well_formed.policies p lt) (h.numbers p lt))))
+    (node_named flow h p lt, node_writable flow h n.kind n.policy (h.well_formed.loops_declared p lt) (h.well_formed.policies p lt) (h.numbers p lt), tt, refl)))
 
 edges_writable : (flow : Dataflow) → CanBeWritten flow → AllByRecursion IsWritable (map (of_edge flow) flow.edges)
 unfolding sender receiver
@@ -464,6 +427,24 @@ all_plain : (ds : List Declaration) → AllByRecursion IsWritable ds → list_al
 all_plain [] w = refl
 all_plain (d ∷ ds) w = ap (λ b. b && list_all is_plain_line (map declaration_words ds)) (plain_declaration d w.0) ∙ all_plain ds w.1
 
+-- ---- none is split
+
+lined_each : (P : Declaration → Type 0) (number : ℕ) (ds : List Declaration) → AllByRecursion P ds → AllByRecursion (λ (d : Declared). P d.declaration) (lined number ds)
+lined_each P number [] h = tt
+lined_each P number (d ∷ ds) h = (h.0, lined_each P (number + 1) ds h.1)
+
+-- what holds of each declaration of a flow, by its loops, nodes and edges
+each_declared : (P : Declaration → Type 0) (flow : Dataflow) → ((l : Loop) → P (of_loop flow l)) → ((n : Node) → P (of_node flow n)) → ((e : Edge) → P (of_edge flow e))
+    → AllByRecursion (λ (d : Declared). P d.declaration) (raw_of flow)
+each_declared P flow loops nodes edges =
+    lined_each P 1 (declarations_of flow)
+    (each-append P (map (of_loop flow) flow.loops) (map (of_node flow) flow.nodes ++ map (of_edge flow) flow.edges) (each-map P (of_loop flow) flow.loops (each-one (λ l. P (of_loop flow l)) flow.loops loops))
+    (each-append P (map (of_node flow) flow.nodes) (map (of_edge flow) flow.edges) (each-map P (of_node flow) flow.nodes (each-one (λ n. P (of_node flow n)) flow.nodes nodes))
+    (each-map P (of_edge flow) flow.edges (each-one (λ e. P (of_edge flow e)) flow.edges edges))))
+
+none_split : (flow : Dataflow) → AreWhole (raw_of flow)
+none_split flow = each_declared (λ d. is_whole d ≡ true) flow (λ l. refl) (λ n. refl) (λ e. refl)
+
 -- ---- the text
 
 -- the text of a flow that can be written is read as that flow, where it is not too long
@@ -478,10 +459,9 @@ written_read flow h short =
     } in
     let said : said_lines (text_of_flow flow) ≡ numbered 1 (map declaration_words ds) = ap said_lines (text_lined flow) ∙ said_lines-text_of (map declaration_words ds) (all_plain ds writable) in
     let known = known_lines (said_lines (text_of_flow flow)) (raw_of flow) (ap (read_lines []) said ∙ all_read [] 1 ds writable (all_new [] 1 ds once)) in
-    let same = flow_back flow h in
     record {
       sound = record { size = short; lines = known.0 };
       declared = raw_of flow;
       written = known.1;
-      checked = record { well_formed = subst IsWellFormed (sym same) h.well_formed; value = sym same };
+      checked = checked-whole (raw_of flow) flow (none_split flow) h.well_formed (flow_back flow h);
     }

@@ -1,8 +1,8 @@
 -- How a dataflow is written.
-use Rattle.std.specs.Prelude.{ℕ, List, ◌++◌, length, option_map}
+use Rattle.std.specs.Prelude.{ℕ, List, ◌++◌, length, None, option_map}
 use Rattle.std.specs.List.{flat_map, range_with_len}
 use Rattle.fw_lines.specs.Written.{line_text}
-use Rattle.fw_flow.specs.declared.raw.Declaration.{Declaration}
+use Rattle.fw_flow.specs.Declaring.{Declaration}
 use Rattle.fw_flow.specs.declared.raw.Declaration.TheVariants.{Loop, Node, Edge}
 use Rattle.fw_flow.specs.Kind.{Kind, RawKind, kind_map}
 use Rattle.fw_flow.specs.Dataflow.{Dataflow, node_at, kind_of, policy_of, sender, receiver, max_of, declared_parent, node_ids}
@@ -17,9 +17,9 @@ named_kind flow kind = kind_map (name_of_loop flow) kind
 abbrev pub declared_loop : Dataflow → ℕ → Declaration
 declared_loop flow l = Loop (name_of_loop flow l) (max_of flow l) (option_map (name_of_loop flow) (declared_parent flow l))
 
--- what declares the node at a place
+-- what declares the node at a place, which is not split and no replica
 abbrev pub declared_node : Dataflow → ℕ → Declaration
-declared_node flow p = Node (node_at flow p).name (named_kind flow (kind_of flow p)) (policy_of flow p)
+declared_node flow p = Node (node_at flow p).name (named_kind flow (kind_of flow p)) (policy_of flow p) None None
 
 -- what declares the edge at a place
 abbrev pub declared_edge : Dataflow → ℕ → Declaration

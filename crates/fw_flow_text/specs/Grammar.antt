@@ -10,10 +10,10 @@ use Rattle.fw_lines.specs.Faults.{Rules, BreaksNone, IsFirstRefusal}
 use Rattle.fw_lines.specs.declared.span.Span.{Span}
 use Rattle.fw_lines.specs.Lines.{Said, said_lines, words_at}
 use Rattle.fw_lines.specs.Spelling.{number_of}
-use Rattle.fw_flow.specs.declared.raw.Declaration.{Declaration}
-use Rattle.fw_flow.specs.declared.raw.Declared.{Declared}
+use Rattle.fw_flow.specs.Declaring.{Declaration, Declared}
 use Rattle.fw_flow.specs.Check.{IsChecked, IsFirstBroken}
 use Rattle.fw_flow.specs.Dataflow.{Dataflow}
+use Rattle.fw_flow.specs.Expand.{expand}
 use Rattle.fw_flow.specs.Raw.{is_new}
 use Rattle.fw_flow_text.specs.Spelled.{declaration_words, IsWritable}
 
@@ -95,14 +95,14 @@ pub record IsAcceptedFlow (text : List ℕ) (flow : Dataflow) : Type 0 where
   pub sound : BreaksNone flow_rules text
   pub declared : List Declared
   pub written : Declare (said_lines text) declared
-  pub checked : IsChecked declared flow
+  pub checked : IsChecked (expand declared) flow
 
 -- no line of the text breaks a rule, and the refusal is the first rule that its declarations break
 pub record IsRefusedOfDeclarations (text : List ℕ) (refusal : Refusal) : Type 0 where
   pub sound : BreaksNone flow_rules text
   pub declared : List Declared
   pub written : Declare (said_lines text) declared
-  pub broken : IsFirstBroken declared refusal
+  pub broken : IsFirstBroken (expand declared) refusal
 
 -- the refusal is the first rule that the text breaks: of its size, of its first line that breaks one, or of its declarations
 abbrev pub IsRefusedFlow : List ℕ → Refusal → Type 0

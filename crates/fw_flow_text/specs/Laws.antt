@@ -2,7 +2,7 @@
 use Rattle.std.specs.Prelude.{◌≡◌, ℕ, Bool, true, ◌||◌, List}
 use Rattle.std.specs.List.{list_all}
 use Rattle.fw_lines.specs.Lines.{is_line_feed, is_allowed}
-use Rattle.fw_flow.specs.declared.raw.Declaration.{Declaration}
+use Rattle.fw_flow.specs.Declaring.{Declaration}
 use Rattle.fw_flow.specs.Dataflow.{Dataflow}
 use Rattle.fw_flow_text.specs.Grammar.{AreWordsOf, IsAcceptedFlow}
 

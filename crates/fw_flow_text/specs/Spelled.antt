@@ -1,5 +1,5 @@
 -- How what a flow declares is written, in words.
-use Rattle.std.specs.Prelude.{◌≡◌, ℕ, ◌<◌, ◌^◌, true, List, [], ◌∷◌, ◌++◌, Option, Some, None, codes, IfSome}
+use Rattle.std.specs.Prelude.{◌≡◌, ℕ, ◌-◌, ◌<◌, ◌^◌, true, List, [], ◌∷◌, ◌++◌, length, take, drop, Option, Some, None, codes, IfSome}
 use Rattle.std.specs.Fmt.{decimal}
 use Rattle.fw_bag.specs.declared.select.Assignment.{Assignment}
 use Rattle.fw_bag.specs.declared.select.Comparison.{Comparison}
@@ -15,8 +15,9 @@ use Rattle.fw_bag.specs.declared.select.Term.TheVariants as term
 use Rattle.fw_lines.specs.Spelling.{is_name}
 use Rattle.fw_flow.specs.declared.kind.Policy.{Policy}
 use Rattle.fw_flow.specs.declared.kind.Policy.TheVariants.{None as NoPolicy}
-use Rattle.fw_flow.specs.declared.raw.Declaration.{Declaration}
+use Rattle.fw_flow.specs.Declaring.{Declaration}
 use Rattle.fw_flow.specs.declared.raw.Declaration.TheVariants.{Loop, Node, Edge}
+use Rattle.fw_flow.specs.KeyParts.{may_split}
 use Rattle.fw_flow.specs.Kind.{RawKind, loop_of_kind}
 use Rattle.fw_flow.specs.declared.kind.Kind.TheVariants.{Input, OutputEpoch, OutputNumber, Select, Concat, Distinct, Join, Sum, Enter, Feedback, Leave, Total, Sequence, Ledger, Regroup}
 use Rattle.fw_flow_text.specs.declared.node.NodeForm.{NodeForm}
@@ -87,6 +88,11 @@ node_words Sequence policy = codes "sequence" ∷ policy_words policy
 node_words Ledger policy = codes "ledger" ∷ policy_words policy
 node_words (Regroup size) policy = codes "regroup" ∷ decimal size ∷ policy_words policy
 
+-- the words of a node behind its name, where it may be split: by a number, `split` and the number stand in front of the policy
+abbrev pub split_words : Option ℕ → List (List ℕ) → List (List ℕ)
+split_words None words = words
+split_words (Some n) words = take (length words - 2) words ++ codes "split" ∷ decimal n ∷ drop (length words - 2) words
+
 -- the words of a loop's parent, none where there is none
 abbrev pub parent_words : Option (List ℕ) → List (List ℕ)
 parent_words None = []
@@ -95,7 +101,7 @@ parent_words (Some name) = codes "in" ∷ name ∷ []
 -- the words of a declaration
 abbrev pub declaration_words : Declaration → List (List ℕ)
 declaration_words (Loop name max parent) = codes "loop" ∷ name ∷ codes "max" ∷ decimal max ∷ parent_words parent
-declaration_words (Node name kind policy) = codes "node" ∷ name ∷ node_words kind policy
+declaration_words (Node name kind policy split part) = codes "node" ∷ name ∷ split_words split (node_words kind policy)
 declaration_words (Edge name sender receiver) = codes "edge" ∷ name ∷ sender ∷ receiver ∷ []
 
 -- ---- what can be written
@@ -149,8 +155,24 @@ pub record AreNodeWords (word : List ℕ) (rest : List (List ℕ)) (form : NodeF
   pub same : word ∷ rest ≡ node_words form.kind form.policy
   pub writable : IsWritableNode form.kind form.policy
 
--- a declaration can be written: its names are names, its numbers are below 2^64, and no input or output has a policy
+-- where a node is split, its kind may be, and the number is below 2^64
+abbrev pub IsSplitWritten : RawKind → Option ℕ → Type 0
+IsSplitWritten kind split = IfSome split (λ n. (may_split kind ≡ true) × (n < 2 ^ 64))
+
+-- the word of a kind and the words behind it are those of a node of this kind and policy, split by this number if there is one, and can
+-- be written
+pub record AreSplitWords (word : List ℕ) (rest : List (List ℕ)) (form : NodeForm) (split : Option ℕ) : Type 0 where
+  pub same : word ∷ rest ≡ split_words split (node_words form.kind form.policy)
+  pub writable : IsWritableNode form.kind form.policy
+  pub splits : IsSplitWritten form.kind split
+
+-- the words are these, `split`, a number, and two words
+abbrev pub IsAroundSplit : List (List ℕ) → List (List ℕ) → List ℕ → List (List ℕ) → Type 0
+IsAroundSplit words before number policy = (words ≡ before ++ codes "split" ∷ number ∷ policy) × (length policy ≡ 2)
+
+-- a declaration can be written: its names are names, its numbers are below 2^64, no input or output has a policy, no node is split
+-- whose kind may not be, and none is a replica
 abbrev pub IsWritable : Declaration → Type 0
 IsWritable (Loop name max parent) = IsName name × (max < 2 ^ 64) × IfSome parent IsName
-IsWritable (Node name kind policy) = IsName name × IsWritableNode kind policy
+IsWritable (Node name kind policy split part) = IsName name × IsWritableNode kind policy × IsSplitWritten kind split × (part ≡ None)
 IsWritable (Edge name sender receiver) = IsName name × IsName sender × IsName receiver

@@ -5,7 +5,7 @@ ghost use Rattle.fw_lines.specs.Written.{spaced};
 ghost use Rattle.fw_flow_text.specs.BatchesText.{text_of_batches, line_of_batch, lines_of_batches, lines_of_node};
 
 use fw_bag::Bag;
-use fw_flow::{Flow, Name, NodeId};
+use fw_flow::{Flow, FullName, NodeId};
 use fw_lines::Batches;
 use std::fmt;
 use std::marker::Model;
@@ -98,7 +98,7 @@ impl<'a> fmt::Display for NodeLines<'a> {
 // The lines of an input's batches, those of earlier epochs first.
 #[derive(Drop)]
 struct BatchLines<'a> {
-    name: &'a Name,
+    name: &'a FullName,
     batches: &'a [Bag],
 }
 
@@ -120,7 +120,7 @@ impl<'a> fmt::Display for BatchLines<'a> {
 // The line of a batch.
 #[derive(Drop)]
 struct BatchLine<'a> {
-    name: &'a Name,
+    name: &'a FullName,
     batch: &'a Bag,
 }
 

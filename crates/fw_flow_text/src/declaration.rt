@@ -3,7 +3,7 @@ ghost use Rattle.std.specs.Prelude.{◌∷◌, [], codes, IfOk};
 ghost use Rattle.fw_flow_text.specs.Grammar.{Finds, AreWordsOf, capped_words};
 
 use crate::ending::parent_at_end;
-use crate::node::node_form;
+use crate::split::split_form;
 use crate::words::{capped, numeral};
 use fw_flow::{Declaration, Name};
 use fw_lines::Span;
@@ -42,13 +42,15 @@ fn node(alloc: Global, text: &[u8], words: &[Span]) -> Result<Option<Declaration
     let Some(name) = Name::from_bytes(alloc, capped(text, *name))? else {
         return Ok(None);
     };
-    let Some(form) = node_form(alloc, text, capped(text, *kind), rest)? else {
+    let Some((form, split)) = split_form(alloc, text, capped(text, *kind), rest)? else {
         return Ok(None);
     };
     let declaration = Declaration::Node {
         name,
         kind: form.kind,
         policy: form.policy,
+        split,
+        part: None,
     };
     Ok(Some(declaration))
 }

@@ -14,7 +14,7 @@ ghost use Rattle.fw_flow_text.specs.Laws.{AcceptedTextsHaveAllowedBytes, WordsDe
 
 use crate::shown::numbers_are_small;
 use fw_flow::Flow;
-use fw_flow::laws::{flow_is_well_formed, names_are_distinct, names_are_names};
+use fw_flow::laws::{flow_is_well_formed, names_are_distinct, names_are_names, names_are_plain};
 use fw_lines::Batches;
 
 /// An accepted text has no byte but LF and those from 32 to 126, in a comment neither.
@@ -36,6 +36,7 @@ pub fn flow_is_read_back(flow: &Flow)
     flow_is_well_formed(flow);
     names_are_distinct(flow);
     names_are_names(flow);
+    names_are_plain(flow);
     numbers_are_small(flow);
 }
 
@@ -51,5 +52,5 @@ pub fn batches_are_read_back(flow: &Flow, batches: &Batches)
 {
     let _ = batches;
     names_are_distinct(flow);
-    names_are_names(flow);
+    names_are_plain(flow);
 }

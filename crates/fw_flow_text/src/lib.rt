@@ -9,6 +9,7 @@ mod node;
 mod reader;
 mod select;
 mod shown;
+mod split;
 mod words;
 
 pub use batches::BatchesText;

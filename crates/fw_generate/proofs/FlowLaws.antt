@@ -1,5 +1,5 @@
 -- The dataflow of the generated texts, and that its text declares it.
-use Rattle.std.proofs.Common.{◌≡◌, ℕ, List, [], ◌∷◌, Some, None, unwrap_or, refl, sym, subst, codes, lit≤}
+use Rattle.std.proofs.Common.{◌≡◌, ℕ, List, [], ◌∷◌, Some, None, unwrap_or, refl, codes, lit≤}
 use Rattle.fw_bag.specs.declared.select.Comparison.TheVariants.{Less}
 use Rattle.fw_bag.specs.declared.select.Field.TheVariants.{Value}
 use Rattle.fw_bag.specs.declared.select.NewValue.TheVariants as new
@@ -14,12 +14,14 @@ use Rattle.fw_flow.specs.declared.kind.Policy.TheVariants as policy
 use Rattle.fw_flow.specs.declared.node.Edge.{Edge}
 use Rattle.fw_flow.specs.declared.node.Node.{Node}
 use Rattle.fw_flow.specs.Dataflow.{Dataflow}
-use Rattle.fw_flow.specs.declared.raw.Declared.{Declared}
+use Rattle.fw_lemmas.proofs.Each.{each-of_all}
+use Rattle.fw_flow.specs.Declaring.{Declared}
+use Rattle.fw_flow.proofs.ExpandLaws.{AreWhole, checked-whole, is_whole}
 use Rattle.fw_flow.specs.Raw.{flow_of_declarations}
 use Rattle.fw_flow.specs.WellFormed.{IsWellFormed}
 use Rattle.fw_flow_text.specs.Grammar.{capped, IsAcceptedFlow}
 use Rattle.fw_flow_text.proofs.DeclaredLaws.{read_lines, known_lines}
-use Rattle.fw_flow_text.proofs.Reading.{policy_named, policy_at_end, ending_within, ending_outside, ending_of, parent_named, parent_at_end, output_kind, within_kind, leading_kind, lone_kind, input_form, output_form, select_form, regroup_form, within_form, leading_form, lone_form, node_form, node_declaration, edge_declaration, loop_of, loop_declaration, declaration_of, condition_of, value_part, assignment_part, selection_part, numeral_of, field_of, comparison_of, term_of}
+use Rattle.fw_flow_text.proofs.Reading.{policy_named, policy_at_end, ending_within, ending_outside, ending_of, parent_named, parent_at_end, output_kind, within_kind, leading_kind, lone_kind, input_form, output_form, select_form, regroup_form, within_form, leading_form, lone_form, node_form, has_split, any_form, node_declaration, edge_declaration, loop_of, loop_declaration, declaration_of, condition_of, value_part, assignment_part, selection_part, numeral_of, field_of, comparison_of, term_of}
 use Rattle.fw_generate.specs.Texts.{flow_text}
 
 abbrev node : List ℕ → Kind → Policy → Node
@@ -74,12 +76,16 @@ the_declared : List Declared
 the_declared = unwrap_or (read_lines [] (said_lines flow_text)) []
 
 lines_read : read_lines [] (said_lines flow_text) ≡ Some the_declared
-unfolding the_declared said_by number_of capped policy_named policy_at_end ending_within ending_outside ending_of parent_named parent_at_end output_kind within_kind leading_kind lone_kind input_form output_form select_form regroup_form within_form leading_form lone_form node_form node_declaration edge_declaration loop_of loop_declaration declaration_of condition_of value_part assignment_part selection_part numeral_of field_of comparison_of term_of
+unfolding the_declared said_by number_of capped policy_named policy_at_end ending_within ending_outside ending_of parent_named parent_at_end output_kind within_kind leading_kind lone_kind input_form output_form select_form regroup_form within_form leading_form lone_form node_form has_split any_form node_declaration edge_declaration loop_of loop_declaration declaration_of condition_of value_part assignment_part selection_part numeral_of field_of comparison_of term_of
 lines_read = refl
 
 flow_spelled : flow_of_declarations the_declared ≡ the_flow
-unfolding the_declared said_by number_of capped policy_named policy_at_end ending_within ending_outside ending_of parent_named parent_at_end output_kind within_kind leading_kind lone_kind input_form output_form select_form regroup_form within_form leading_form lone_form node_form node_declaration edge_declaration loop_of loop_declaration declaration_of condition_of value_part assignment_part selection_part numeral_of field_of comparison_of term_of
+unfolding the_declared said_by number_of capped policy_named policy_at_end ending_within ending_outside ending_of parent_named parent_at_end output_kind within_kind leading_kind lone_kind input_form output_form select_form regroup_form within_form leading_form lone_form node_form has_split any_form node_declaration edge_declaration loop_of loop_declaration declaration_of condition_of value_part assignment_part selection_part numeral_of field_of comparison_of term_of
 flow_spelled = refl
+
+none_split : AreWhole the_declared
+unfolding the_declared said_by number_of capped policy_named policy_at_end ending_within ending_outside ending_of parent_named parent_at_end output_kind within_kind leading_kind lone_kind input_form output_form select_form regroup_form within_form leading_form lone_form node_form has_split any_form node_declaration edge_declaration loop_of loop_declaration declaration_of condition_of value_part assignment_part selection_part numeral_of field_of comparison_of term_of
+none_split = each-of_all (λ (d : Declared). is_whole d.declaration) the_declared refl
 
 -- the text declares the dataflow, where that is well formed
 pub flow_declared : IsWellFormed the_flow → IsAcceptedFlow flow_text the_flow
@@ -89,5 +95,5 @@ flow_declared well_formed =
       sound = record { size = lit≤ tt; lines = lines.0 };
       declared = the_declared;
       written = lines.1;
-      checked = record { well_formed = subst IsWellFormed (sym flow_spelled) well_formed; value = sym flow_spelled };
+      checked = checked-whole the_declared the_flow none_split well_formed flow_spelled;
     }

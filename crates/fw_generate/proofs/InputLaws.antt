@@ -30,7 +30,7 @@ use Rattle.fw_lines.specs.Written.{behind_space, spaced, line_text, text_of, Wor
 use Rattle.fw_generate.specs.Texts.{batch_line, batch_lines, rec_word}
 use Rattle.fw_generate.proofs.DrawnLaws.{drawn-each, joined_length, length-drawn}
 use Rattle.fw_lines.proofs.WrittenLaws.{said_lines-text_of}
-use Rattle.fw_schedule.proofs.NumberLaws.{decimal_digits, number_of-decimal}
+use Rattle.fw_lines.proofs.DecimalLaws.{decimal_digits, number_of-decimal}
 use Rattle.fw_generate.proofs.WellFormed.{flow_sources}
 use Rattle.fw_generate.proofs.FlowLaws.{the_flow}
 

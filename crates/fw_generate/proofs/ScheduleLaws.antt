@@ -32,7 +32,7 @@ use Rattle.fw_generate.proofs.DrawnLaws.{drawn-each, joined_length, length-drawn
 use Rattle.fw_generate.proofs.FlowLaws.{the_flow}
 use Rattle.fw_generate.proofs.InputLaws.{draw-below, plain-decimal}
 use Rattle.fw_lines.proofs.WrittenLaws.{said_lines-text_of}
-use Rattle.fw_schedule.proofs.NumberLaws.{decimal_numeral, decimal_value}
+use Rattle.fw_lines.proofs.DecimalLaws.{decimal_numeral, decimal_value}
 use Rattle.fw_generate.proofs.Writing.{line_of_two, text_of-schedule}
 
 -- ---- lines that ask for something

@@ -1,4 +1,5 @@
 pub mod BatchLaws
+pub mod DecimalLaws
 pub mod FaultLaws
 pub mod GivenLaws
 pub mod InputLaws

@@ -1,7 +1,7 @@
 use Rattle.std.proofs.Common.{refl, sym, ap, ◌∙◌, subst, arith, below_more, take, ◌++◌, ◌∷◌, [], IfSome}
 use Rattle.std.proofs.lemmas.List.{take_more}
 use Rattle.std.proofs.lemmas.Option.{slice_get_read}
-use Rattle.fw_flow.specs.declared.raw.Declared.{Declared}
+use Rattle.fw_flow.specs.Declaring.{Declared}
 use Rattle.fw_flow.specs.Check.{StaysWithinLimits, IsWithinLimitsAfter}
 use Rattle.fw_flow.specs.Parts.{AreCountsDeclared}
 use Rattle.fw_flow.proofs.check.limit_line.Goals as goal

@@ -1,3 +1,4 @@
+use Rattle.fw_flow.proofs.PlainNameLaws.{nodes-plain}
 use Rattle.fw_flow_text.proofs.WrittenLaws.{written_read}
 use Rattle.fw_flow_text.proofs.laws.flow_is_read_back.Goals as goal
 
@@ -12,8 +13,8 @@ returns c =
       nodes_once = once.nodes;
       edges_once = once.edges;
       loops_named = names.loops;
-      nodes_named = names.nodes;
-      edges_named = names.edges;
+      nodes_named = nodes-plain c.args.flow.now c.requires.whole c.names_are_plain.ensures.nodes;
+      edges_named = c.names_are_plain.ensures.edges c.requires.whole;
       whole = c.requires.whole;
       numbers = c.numbers_are_small.ensures;
     })

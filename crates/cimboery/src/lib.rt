@@ -35,8 +35,8 @@ pub use fw_edge::{MsgLog, Queue};
 pub use fw_engine::{Effect, Engine, EngineFault, Outlook, Shown, Stepped};
 pub use fw_flow::{
     BatchFault, BuildFault, Cause, Causes, Choice, Cut, Cuts, Domain, Edge, EdgeId, Flow,
-    FlowBuilder, Fronts, Kind, Loop, LoopId, Lowering, Message, Name, Node, NodeId, Nodes, Offer,
-    Part, Policy, RawKind, Step, Trail,
+    FlowBuilder, Fronts, FullName, KeyPart, Kind, Loop, LoopId, Lowering, Message, Name, Node,
+    NodeId, Nodes, Offer, Part, Policy, RawKind, Step, Trail,
 };
 pub use fw_flow_text::{BatchesText, FLOW_LIMIT, FlowText, read_flow};
 pub use fw_frontier::Front;

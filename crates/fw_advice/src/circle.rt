@@ -3,11 +3,11 @@ use crate::declared::{Declarations, Domain, NodeLine, is_same};
 use crate::flow_rules::add_shown;
 use std::alloc::{AllocError, Global};
 
-/// A flow of more nodes is not searched.
-const MOST_NODES: usize = 256;
+/// A flow has at most so many nodes; one of more is not searched.
+pub(crate) const MOST_NODES: usize = 256;
 
-/// A flow of more edges is not searched.
-const MOST_EDGES: usize = 512;
+/// A flow has at most so many edges; one of more is not searched.
+pub(crate) const MOST_EDGES: usize = 512;
 
 /// The edges of a flow, by the places of their nodes.
 #[derive(Drop)]

@@ -33,6 +33,8 @@ pub(crate) struct NodeLine<'a> {
     pub(crate) operand: Option<Word<'a>>,
     /// The loop that it names.
     pub(crate) of: Option<Word<'a>>,
+    /// The number by which it is split.
+    pub(crate) split: Option<Word<'a>>,
     /// The last word, its policy where it has one.
     pub(crate) last: Word<'a>,
 }
@@ -231,6 +233,7 @@ fn node_line<'a>(number: u32, words: &[Word<'a>]) -> Line<'a> {
         kind: kind.bytes,
         operand,
         of: loop_of(kind.bytes, operand, words),
+        split: split_of(words),
         last,
     })
 }
@@ -241,8 +244,20 @@ fn loop_of<'a>(kind: &[u8], operand: Option<Word<'a>>, words: &[Word<'a>]) -> Op
         "enter" | "feedback" | "leave" => operand,
         _ => match words {
             [_, _, _, .., before, name, _, _] if before.bytes == b"loop".as_slice() => Some(*name),
+            [_, _, _, .., before, name, split, _, _, _]
+                if before.bytes == b"loop".as_slice() && split.bytes == b"split".as_slice() => {
+                Some(*name)
+            }
             _ => None,
         },
+    }
+}
+
+// The number by which a node is split.
+fn split_of<'a>(words: &[Word<'a>]) -> Option<Word<'a>> {
+    match words {
+        [_, _, _, .., before, number, _, _] if before.bytes == b"split".as_slice() => Some(*number),
+        _ => None,
     }
 }
 

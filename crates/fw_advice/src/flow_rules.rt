@@ -1,5 +1,6 @@
 //! Which word of a flow breaks a rule, and what was expected.
 use crate::declared::{Declarations, Domain, EdgeLine, LoopLine, NodeLine, is_same};
+use crate::expansion::Sizes;
 use crate::shown::Shown;
 use crate::slip::{Slip, add_near_name};
 use crate::slot::{is_large, is_one_of};
@@ -267,12 +268,37 @@ pub(crate) fn range_slip<'a>(alloc: Global, all: &Declarations<'a>, line: u32) -
             format!(in alloc; "expected a number from 1 to 4294967295")?,
         )));
     }
+    if let Some(node) = node_on(all, line)
+        && let Some(number) = node.split
+        && !is_between(number.bytes, 2, 64)
+    {
+        return Ok(Some(Slip::at(
+            number,
+            format!(in alloc; "expected a number of replicas from 2 to 64")?,
+        )));
+    }
+    too_many(alloc, all)
+}
+
+// How many nodes, edges and loops a flow has that has too many of them.
+fn too_many<'a>(alloc: Global, all: &Declarations<'a>) -> Found<'a> {
     let loops = all.loops.len();
-    let nodes = all.nodes.len();
-    let edges = all.edges.len();
+    let written = Sizes::written(all);
+    if !written.is_allowed() || !is_split(all) {
+        let Sizes { nodes, edges } = written;
+        return Ok(Some(Slip::of_line(format!(in alloc;
+            "expected at most 256 nodes, 512 edges and 64 loops; the lines declare {nodes} nodes, {edges} edges and {loops} loops"
+        )?)));
+    }
+    let Sizes { nodes, edges } = Sizes::expanded(all);
     Ok(Some(Slip::of_line(format!(in alloc;
-        "expected at most 256 nodes, 512 edges and 64 loops; the flow has {nodes} nodes, {edges} edges and {loops} loops"
+        "expected at most 256 nodes, 512 edges and 64 loops; with the replicas of split nodes the flow has {nodes} nodes, {edges} edges and {loops} loops"
     )?)))
+}
+
+// Whether a node is split.
+fn is_split(all: &Declarations<'_>) -> bool {
+    all.nodes.iter().any(|node| node.split.is_some())
 }
 
 // Whether a word is a number of this range.

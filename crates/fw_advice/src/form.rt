@@ -102,7 +102,9 @@ fn node_form<'a>(words: &[Word<'a>]) -> Result<(), Wrong<'a>> {
         "input" => end(behind, "the end of the line: an input has no policy"),
         "output" => output_form(behind),
         "select" => select_form(behind),
-        "concat" | "distinct" | "join" | "sum" => standing_form(behind, Slot::PolicyOrLoop),
+        "concat" => standing_form(behind, Slot::PolicyOrLoop),
+        "distinct" | "join" | "sum" => keyed_form(behind),
+        "total" => split_form(behind, Slot::PolicyOrSplit),
         "enter" | "feedback" | "leave" => {
             policy_form(take(
                 behind,
@@ -158,6 +160,33 @@ fn standing_form<'a>(words: &[Word<'a>], wanted: Slot) -> Result<(), Wrong<'a>> 
     policy_form(words)
 }
 
+// `[loop L] [split NUMBER] policy P`
+fn keyed_form<'a>(words: &[Word<'a>]) -> Result<(), Wrong<'a>> {
+    if !begins(words, b"loop".as_slice()) {
+        return split_form(words, Slot::PolicyOrLoopOrSplit);
+    }
+    let rest = take(words, Slot::Keyword("loop"))?;
+    let rest = take(
+        rest,
+        Slot::Name("the name of the loop in which the node stands"),
+    )?;
+    split_form(rest, Slot::PolicyOrSplit)
+}
+
+// `[split NUMBER] policy P`; where neither stands there, this was expected.
+fn split_form<'a>(words: &[Word<'a>], wanted: Slot) -> Result<(), Wrong<'a>> {
+    if begins(words, b"split".as_slice()) {
+        let rest = take(words, Slot::Keyword("split"))?;
+        let rest = take(
+            rest,
+            Slot::Number("how many replicas share the keys, a number from 2 to 64"),
+        )?;
+        return policy_form(rest);
+    }
+    take(words, wanted)?;
+    policy_form(words)
+}
+
 // `policy P`
 fn policy_form<'a>(words: &[Word<'a>]) -> Result<(), Wrong<'a>> {
     let rest = take(words, Slot::Policy)?;
@@ -190,11 +219,11 @@ pub(crate) fn schedule_form<'a>(words: &[Word<'a>]) -> Result<(), Wrong<'a>> {
         return Ok(());
     };
     match str_of(verb.bytes) {
-        "inject" => named(rest, Slot::Name("the name of an input")),
-        "ack" => named(rest, Slot::Name("the name of an output")),
-        "checkpoint" => named(rest, Slot::Name("the name of a node")),
-        "deliver" => stamped(rest, Slot::Name("the name of an edge")),
-        "notify" => stamped(rest, Slot::Name("the name of a node")),
+        "inject" => named(rest, Slot::FullName("the name of an input")),
+        "ack" => named(rest, Slot::FullName("the name of an output")),
+        "checkpoint" => named(rest, Slot::FullName("the name of a node")),
+        "deliver" => stamped(rest, Slot::FullName("the name of an edge")),
+        "notify" => stamped(rest, Slot::FullName("the name of a node")),
         "fail" => failing(rest),
         "auto" => named(rest, Slot::Number("at most how many steps, a number")),
         _ => end(rest, "the end of the line: this step has no operand"),
@@ -220,12 +249,12 @@ fn stamped<'a>(words: &[Word<'a>], slot: Slot) -> Result<(), Wrong<'a>> {
 
 // One or more names.
 fn failing<'a>(words: &[Word<'a>]) -> Result<(), Wrong<'a>> {
-    let rest = take(words, Slot::Name("the name of a node"))?;
+    let rest = take(words, Slot::FullName("the name of a node"))?;
     for word in rest {
-        if !Slot::Name("").accepts(word.bytes) {
+        if !Slot::FullName("").accepts(word.bytes) {
             return Err(Wrong {
                 word: Some(*word),
-                slot: Slot::Name("the name of a node"),
+                slot: Slot::FullName("the name of a node"),
             });
         }
     }

@@ -6,6 +6,7 @@
 mod acks;
 mod circle;
 mod declared;
+mod expansion;
 mod flow_rules;
 mod form;
 mod near;

@@ -4,6 +4,7 @@ ghost use Rattle.fw_advice.specs.Plain.{IsPlain};
 
 use crate::circle::circle;
 use crate::declared::Declarations;
+use crate::expansion::expansion;
 use crate::flow_rules::{
     deep_slip, domains_slip, edges_slip, lacks, large_slip, policy_slip, range_slip, twice_slip,
     undeclared_slip,
@@ -46,10 +47,22 @@ pub fn advice(alloc: Global, refused: &Refused<'_>) -> Result<Vec<u8>, AllocErro
 
 fn told<'a>(alloc: Global, refused: &Refused<'a>) -> Result<String, AllocError> {
     let flow_rows = rows(alloc, refused.flow)?;
-    let all = Declarations::of(alloc, flow_rows.as_slice())?;
+    let written = Declarations::of(alloc, flow_rows.as_slice())?;
     let mut told = String::new(alloc);
-    add_all(alloc, refused, &all, &mut told)?;
+    if is_of_schedule(refused.refusal.code) {
+        let text = expansion(alloc, flow_rows.as_slice(), &written)?;
+        let expanded_rows = rows(alloc, text.as_bytes())?;
+        let expanded = Declarations::of(alloc, expanded_rows.as_slice())?;
+        add_all(alloc, refused, &expanded, &mut told)?;
+    } else {
+        add_all(alloc, refused, &written, &mut told)?;
+    }
     Ok(told)
+}
+
+// Whether a schedule is refused by this rule; its names are those of the expansion.
+fn is_of_schedule(code: Code) -> bool {
+    matches!(code, Code::S1 | Code::S2 | Code::S3 | Code::S4)
 }
 
 // Adds what is wrong, the rule, and how to mend it.

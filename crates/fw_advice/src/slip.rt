@@ -83,7 +83,9 @@ pub(crate) fn add_near_name(
 // How a name, a number or a word of the grammar is spelled, where that is the slip.
 fn spelling_note(slot: Slot, word: &[u8]) -> &'static str {
     match slot {
-        Slot::Name(_) => name_note(word),
+        Slot::FullName(_) if word.contains(&b'.') =>
+            ": behind a name stands at most `.` or `.out.` and a number",
+        Slot::Name(_) | Slot::FullName(_) => name_note(word),
         Slot::Number(_) | Slot::Term => number_note(word),
         Slot::Record => record_note(word),
         Slot::Field | Slot::Comparison => glued_note(word),

@@ -1,4 +1,5 @@
 //! What the form of a line wants at a place.
+use fw_flow::is_full_name;
 use fw_lines::{Number, is_name, number};
 
 /// What the form of a line wants at a place.
@@ -8,6 +9,8 @@ pub(crate) enum Slot {
     Declaration,
     /// A name of this thing.
     Name(&'static str),
+    /// A name of this thing, perhaps with the place of a part behind it.
+    FullName(&'static str),
     /// The kind of a node.
     Kind,
     /// `epoch` or `number`.
@@ -22,10 +25,12 @@ pub(crate) enum Slot {
     Number(&'static str),
     /// This very word.
     Keyword(&'static str),
-    /// `policy`, or `loop` where a node may stand in one.
+    /// `policy`, or what may stand before it.
     Policy,
     PolicyOrLoop,
     PolicyOrSet,
+    PolicyOrSplit,
+    PolicyOrLoopOrSplit,
     /// The word of a policy.
     PolicyName,
     /// `batch`.
@@ -45,6 +50,7 @@ impl Slot {
     pub(crate) fn accepts(self, word: &[u8]) -> bool {
         match self {
             Slot::Name(_) => is_name(word),
+            Slot::FullName(_) => is_full_name(word),
             Slot::Number(_) => is_number(word),
             Slot::Keyword(wanted) => word == wanted.as_bytes(),
             Slot::Term => is_one_of(word, self.words()) || is_number(word),
@@ -68,6 +74,8 @@ impl Slot {
             Slot::Policy => b"policy".as_slice(),
             Slot::PolicyOrLoop => b"policy loop".as_slice(),
             Slot::PolicyOrSet => b"policy loop set".as_slice(),
+            Slot::PolicyOrSplit => b"policy split".as_slice(),
+            Slot::PolicyOrLoopOrSplit => b"policy loop split".as_slice(),
             Slot::PolicyName => b"none lazy logged eager full".as_slice(),
             Slot::Batch => b"batch".as_slice(),
             Slot::Verb => {
@@ -90,7 +98,7 @@ impl Slot {
     pub(crate) fn wants(self) -> &'static str {
         match self {
             Slot::Declaration => "`loop`, `node` or `edge`",
-            Slot::Name(what) | Slot::Number(what) | Slot::End(what) => what,
+            Slot::Name(what) | Slot::FullName(what) | Slot::Number(what) | Slot::End(what) => what,
             Slot::Kind => {
                 "a kind (input, output, select, concat, distinct, join, sum, enter, feedback, leave, total, sequence, ledger or regroup)"
             }
@@ -102,6 +110,8 @@ impl Slot {
             Slot::Policy => "`policy`",
             Slot::PolicyOrLoop => "`policy`, or `loop` and a loop's name before it",
             Slot::PolicyOrSet => "`policy`, or `set` or `loop` before it",
+            Slot::PolicyOrSplit => "`policy`, or `split` and a number before it",
+            Slot::PolicyOrLoopOrSplit => "`policy`, or `loop` or `split` before it",
             Slot::PolicyName => "a policy (none, lazy, logged, eager or full)",
             Slot::Batch => "`batch`",
             Slot::Record => "a rec as KEY:VALUE, two numbers and a colon",

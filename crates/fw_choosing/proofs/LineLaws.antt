@@ -15,7 +15,7 @@ use Rattle.fw_frontier.specs.Front.{Front, IsCanonical}
 use Rattle.fw_frontier.specs.FrontText.{spaces_text}
 use Rattle.fw_lines.specs.declared.numeral.Number.{Number}
 use Rattle.fw_lines.specs.declared.numeral.Number.TheVariants.{Value, TooLarge, NotANumber}
-use Rattle.fw_lines.specs.Spelling.{is_name}
+use Rattle.fw_flow.specs.FullNames.{is_full_name}
 use Rattle.fw_lines.specs.Written.{WordLine, behind_space, is_plain, is_plain_line, line_text, spaced}
 use Rattle.fw_flow.specs.declared.choice.Cut.{Cut}
 use Rattle.fw_flow.specs.declared.choice.Cut.TheVariants.{Present, At}
@@ -32,7 +32,7 @@ use Rattle.fw_flow.specs.DomainText.{name_of_edge}
 use Rattle.fw_flow.specs.WellFormed.{IsWellFormed}
 use Rattle.fw_model.specs.Choice.{IsCanonicalCut}
 use Rattle.fw_schedule.specs.Stamps.{is_stamp}
-use Rattle.fw_schedule.proofs.NumberLaws.{decimal_numeral, number_of-decimal}
+use Rattle.fw_lines.proofs.DecimalLaws.{decimal_numeral, number_of-decimal}
 use Rattle.fw_schedule.proofs.WordLaws.{IsSpelled, edge_found, node_found, plain-name, plain-number, plain-stamp, stamp-spelled, stamp_read}
 use Rattle.fw_schedule.proofs.WrittenLaws.{IsNamed}
 use Rattle.fw_certify.specs.CertificateText.{cause_text, certificate_line, down_line, part_text}
@@ -90,13 +90,13 @@ IsEntryIn flow (entry.End (Value n) at_choice) = n < 2 ^ 64
 IsEntryIn flow (entry.End TooLarge at_choice) = ⊥
 IsEntryIn flow (entry.End NotANumber at_choice) = ⊥
 
-node-named : (flow : Dataflow) → IsNamed flow → (p : ℕ) → p < length flow.nodes → is_name (node_at flow p).name ≡ true
+node-named : (flow : Dataflow) → IsNamed flow → (p : ℕ) → p < length flow.nodes → is_full_name (node_at flow p).name ≡ true
 unfolding node_at
-node-named flow h p lt = each-at (λ (n : Node). is_name n.name ≡ true) flow.nodes p idle_node lt h.nodes_named
+node-named flow h p lt = each-at (λ (n : Node). is_full_name n.name ≡ true) flow.nodes p idle_node lt h.nodes_named
 
-edge-named : (flow : Dataflow) → IsNamed flow → (e : ℕ) → e < length flow.edges → is_name (name_of_edge flow e) ≡ true
+edge-named : (flow : Dataflow) → IsNamed flow → (e : ℕ) → e < length flow.edges → is_full_name (name_of_edge flow e) ≡ true
 edge-named flow h e lt =
-    each-at (λ (e : Edge). is_name e.name ≡ true) flow.edges e (record { name = []; sender = length flow.nodes; receiver = length flow.nodes }) lt h.edges_named
+    each-at (λ (e : Edge). is_full_name e.name ≡ true) flow.edges e (record { name = []; sender = length flow.nodes; receiver = length flow.nodes }) lt h.edges_named
 
 -- ---- words
 
@@ -300,7 +300,7 @@ part-found part.Cut = refl
 part-found part.Note = refl
 
 -- the form of a line by its verb, behind which a name stands
-verb-found : (flow : Dataflow) → IsNamed flow → (p : ℕ) (found : Option CertificateForm) → p < length flow.nodes → cond (is_name (node_at flow p).name) found None ≡ found
+verb-found : (flow : Dataflow) → IsNamed flow → (p : ℕ) (found : Option CertificateForm) → p < length flow.nodes → cond (is_full_name (node_at flow p).name) found None ≡ found
 verb-found flow h p found lt = ap (λ b. cond b found None) (node-named flow h p lt)
 
 form-found : (flow : Dataflow) → IsNamed flow → (e : ClaimEntry) → IsEntryIn flow e → certificate_form (entry_words flow e) ≡ Some (entry_form flow e)

@@ -1,5 +1,5 @@
 -- The forms of words: what of them is found where they begin leaves fewer, so that covers are found one after another.
-use Rattle.std.proofs.Common.{◌≡◌, ℕ, zero, suc, ◌+◌, ◌<◌, ◌≤◌, ◌==◌, Bool, true, false, ◌&&◌, cond, List, [], ◌∷◌, ◌++◌, length, take, drop, Option, Some, None, refl, sym, ◌∙◌, ap, subst, arith, append_assoc}
+use Rattle.std.proofs.Common.{◌≡◌, ℕ, zero, suc, ◌+◌, ◌<◌, ◌≤◌, ◌==◌, Bool, true, false, ◌&&◌, cond, List, [], ◌∷◌, ◌++◌, length, take, drop, get_or, Option, Some, None, refl, sym, ◌∙◌, ap, subst, arith, append_assoc}
 use Rattle.std.specs.Prelude.{◌≢◌, codes}
 use Rattle.std.proofs.lemmas.Bool.Decides.{nat_tests}
 use Rattle.std.proofs.lemmas.List.{length-drop, append-nil}
@@ -9,12 +9,12 @@ use Rattle.std.specs.Option.{option_map, option_and_then}
 use Rattle.std.specs.Str.{bytes_eq}
 use Rattle.fw_lines.specs.declared.span.Span.{Span}
 use Rattle.fw_lines.specs.Lines.{bytes_at, words_at}
-use Rattle.fw_lines.specs.Spelling.{is_name}
+use Rattle.fw_flow.specs.FullNames.{is_full_name}
 use Rattle.fw_schedule.specs.Stamps.{is_stamp}
 use Rattle.fw_offers_text.specs.declared.form.CoverForm.{CoverForm}
 use Rattle.fw_offers_text.specs.declared.form.SideForm.{SideForm}
 use Rattle.fw_offers_text.specs.declared.form.SideForm.TheVariants as side
-use Rattle.fw_offers_text.specs.Forms.{stamps_at, frontier_at, name_at, side_at, cover_at, covers_within, covers_of_words, certificate_form}
+use Rattle.fw_offers_text.specs.Forms.{stamps_at, frontier_at, name_at, side_at, cover_at, covers_within, covers_of_words, offer_in, offer_form, certificate_form}
 use Rattle.fw_offers_text.specs.Words.{Word}
 use Rattle.fw_offers_text.proofs.TakenLaws.{mapped-some, bound-some}
 
@@ -100,6 +100,20 @@ too_few_words text [] now view h = ap certificate_form view
 too_few_words text (word ∷ []) now view h = ap certificate_form view
 too_few_words text (verb ∷ second ∷ words) now view h = absurd (omega (arith, h))
 
+-- so has a line of offers
+pub too_few_of_offer : (text : List ℕ) (words : List Span) (now : List Word) → words_at text words ≡ now → length words < 2 → None ≡ offer_form now
+too_few_of_offer text [] now view h = ap offer_form view
+too_few_of_offer text (word ∷ []) now view h = ap offer_form view
+too_few_of_offer text (verb ∷ second ∷ words) now view h = absurd (omega (arith, h))
+
+-- and its second word is a name
+pub no_name_of_offer : (text : List ℕ) (words : List Span) (now : List Word) (unless : Span) → words_at text words ≡ now → 2 ≤ length words
+    → false ≡ is_full_name (bytes_at text (get_or words 1 unless)) → None ≡ offer_form now
+no_name_of_offer text [] now unless view h unnamed = absurd (omega (arith, h))
+no_name_of_offer text (word ∷ []) now unless view h unnamed = absurd (omega (arith, h))
+no_name_of_offer text (verb ∷ name ∷ words) now unless view h unnamed =
+    ap (λ b. cond b (offer_in (bytes_at text verb) (bytes_at text name) (words_at text words)) None) unnamed ∙ ap offer_form view
+
 -- ---- what is left
 
 if-some : {A : Type 0} (b : Bool) (x y : A) → cond b (Some x) None ≡ Some y → x ≡ y
@@ -128,7 +142,7 @@ front-left (word ∷ words) found e = by (bytes_eq word (codes "all")) (bytes_eq
 name-left : (words : List Word) (found : Word × List Word) → name_at words ≡ Some found → length found.1 < length words
 name-left [] found e = absurd (cc)
 name-left (name ∷ words) found e =
-    let same = if-some (is_name name) (name, words) found e in
+    let same = if-some (is_full_name name) (name, words) found e in
     let rest : length words ≡ length found.1 = ap (λ (p : Word × List Word). length p.1) same in
     omega (arith, rest)
 

@@ -3,7 +3,8 @@ use Rattle.std.specs.Prelude.{ℕ, zero, suc, ◌==◌, Bool, true, false, ◌&&
 use Rattle.std.specs.List.{list_all, prefix_len}
 use Rattle.std.specs.Option.{option_map, option_and_then}
 use Rattle.std.specs.Str.{bytes_eq}
-use Rattle.fw_lines.specs.Spelling.{is_name, is_numeral}
+use Rattle.fw_lines.specs.Spelling.{is_numeral}
+use Rattle.fw_flow.specs.FullNames.{is_full_name}
 use Rattle.fw_flow.specs.declared.trail.Part.{Part}
 use Rattle.fw_flow.specs.declared.trail.Part.TheVariants as part
 use Rattle.fw_schedule.specs.Stamps.{is_stamp}
@@ -44,7 +45,7 @@ cut_at (word ∷ words) =
 -- a name
 abbrev pub name_at : List Word → Option (Word × List Word)
 name_at [] = None
-name_at (name ∷ words) = if is_name name then Some (name, words) else None
+name_at (name ∷ words) = if is_full_name name then Some (name, words) else None
 
 -- what a cover is of: `notified`; or `delivered` or `discarded`, and the name of an edge
 abbrev pub side_at : List Word → Option (SideForm × List Word)
@@ -132,7 +133,7 @@ offer_in verb name words =
 abbrev pub offer_form : List Word → Option OfferForm
 offer_form [] = None
 offer_form (verb ∷ []) = None
-offer_form (verb ∷ name ∷ words) = if is_name name then offer_in verb name words else None
+offer_form (verb ∷ name ∷ words) = if is_full_name name then offer_in verb name words else None
 
 -- ---- the lines of certificates
 
@@ -144,7 +145,7 @@ lone_cause word =
 -- a cause of a word and the name of an edge
 abbrev pub named_cause : Word → Word → Option CauseForm
 named_cause word name =
-    if is_name name
+    if is_full_name name
     then (if bytes_eq word (codes "delivered") then Some (cause.Delivered name)
     else (if bytes_eq word (codes "discarded") then Some (cause.Discarded name)
     else (if bytes_eq word (codes "note") then Some (cause.Note name) else None)))
@@ -207,7 +208,7 @@ certificate_in verb name words =
 abbrev pub line_in : Word → Word → List Word → Option CertificateForm
 line_in verb second words =
     if bytes_eq verb (codes "certificate") then (if is_numeral second then end_in second words else None)
-    else (if is_name second then certificate_in verb second words else None)
+    else (if is_full_name second then certificate_in verb second words else None)
 
 -- the form of a line of a certificate
 abbrev pub certificate_form : List Word → Option CertificateForm

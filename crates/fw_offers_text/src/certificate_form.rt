@@ -4,8 +4,7 @@ ghost use Rattle.fw_offers_text.specs.Forms as spec;
 
 use crate::form::{CauseForm, CertificateForm, CutForm};
 use crate::words::{Word, Words, behind, front_at, is_word};
-use fw_flow::Part;
-use fw_lines::is_name;
+use fw_flow::{Part, is_full_name};
 use fw_schedule::is_numeral;
 
 /// The form that the words of a line have.
@@ -32,7 +31,7 @@ fn line_in<'a>(verb: &[u8], second: Word<'a>, words: &Words<'a>) -> Option<Certi
         } else {
             None
         }
-    } else if is_name(second.bytes()) {
+    } else if is_full_name(second.bytes()) {
         certificate_in(verb, second, words)
     } else {
         None
@@ -182,7 +181,7 @@ fn lone_cause<'a>(word: &[u8]) -> Option<CauseForm<'a>>
 fn named_cause<'a>(word: &[u8], name: Word<'a>) -> Option<CauseForm<'a>>
     ensures { result ≡ spec.named_cause word.now name.entry }
 {
-    if !is_name(name.bytes()) {
+    if !is_full_name(name.bytes()) {
         return None;
     }
     if is_word(word, b"delivered") {

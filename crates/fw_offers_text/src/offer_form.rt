@@ -4,7 +4,7 @@ ghost use Rattle.fw_offers_text.specs.Forms as spec;
 
 use crate::form::{CoverForm, CoverForms, OfferForm, SideForm};
 use crate::words::{StampWords, Word, Words, behind, front_at, is_word, name_at};
-use fw_lines::is_name;
+use fw_flow::is_full_name;
 use std::alloc::{AllocError, Global};
 
 /// The form that the words of a line have.
@@ -18,7 +18,7 @@ pub(crate) fn offer_form<'a>(
         return Ok(None);
     };
     let name = Word::of(words.text, *name);
-    if !is_name(name.bytes()) {
+    if !is_full_name(name.bytes()) {
         return Ok(None);
     }
     offer_in(

@@ -8,7 +8,8 @@ ghost use Rattle.fw_schedule.specs.Stamps as stamps;
 ghost use Rattle.fw_offers_text.specs.Forms as spec;
 ghost use Rattle.fw_offers_text.specs.Words as spelled;
 
-use fw_lines::{Span, is_name};
+use fw_flow::is_full_name;
+use fw_lines::Span;
 use fw_schedule::{is_numeral, is_stamp};
 use std::marker::Model;
 
@@ -217,7 +218,7 @@ pub(crate) fn name_at<'a>(words: &Words<'a>) -> Option<(Word<'a>, Words<'a>)>
         return None;
     };
     let name = Word::of(words.text, *name);
-    if !is_name(name.bytes()) {
+    if !is_full_name(name.bytes()) {
         return None;
     }
     Some((name, Words::of(words.text, rest)))

@@ -1,8 +1,8 @@
 pub mod CoordinateLaws
+pub mod LimitLaws
 pub mod LineNumberLaws
 pub mod MakingLaws
 pub mod NameLaws
-pub mod NumberLaws
 pub mod ReadLaws
 pub mod ShownLaws
 pub mod StepLaws

@@ -1,5 +1,5 @@
 -- What lines ask for are items of the flow.
-use Rattle.std.proofs.Common.{◌≡◌, ℕ, suc, ◌<◌, ◌≤◌, Bool, true, false, cond, List, [], ◌∷◌, length, map, Option, Some, None, IfSome, Result, Ok, Err, IfOk, refl, ap, subst, arith}
+use Rattle.std.proofs.Common.{◌≡◌, ◌≢◌, ℕ, suc, ◌<◌, ◌≤◌, Bool, true, false, cond, List, [], ◌∷◌, length, map, Option, Some, None, IfSome, Result, Ok, Err, IfOk, refl, ap, subst, arith}
 use Rattle.std.specs.Prelude.{codes}
 use Rattle.std.proofs.lemmas.List.{length-map}
 use Rattle.std.proofs.lemmas.List.Quantifiers.{position-Some}
@@ -12,8 +12,10 @@ use Rattle.fw_time.specs.Stamp.{in_domain}
 use Rattle.fw_time.specs.declared.stamp.Bounds.{Bounds}
 use Rattle.fw_lines.specs.declared.refusal.Code.{Code}
 use Rattle.fw_lines.specs.declared.refusal.Code.TheVariants.{S1, S2, S3}
-use Rattle.fw_lines.specs.Lines.{Said}
-use Rattle.fw_lines.specs.Spelling.{is_name, is_numeral}
+use Rattle.fw_lines.specs.Lines.{Said, words_at}
+use Rattle.fw_lines.specs.declared.span.Span.{Span}
+use Rattle.fw_lines.specs.Spelling.{is_numeral}
+use Rattle.fw_flow.specs.FullNames.{is_full_name}
 use Rattle.fw_flow.specs.Kind.{Kind}
 use Rattle.fw_flow.specs.declared.node.Node.{Node}
 use Rattle.fw_flow.specs.declared.node.Edge.{Edge}
@@ -28,6 +30,15 @@ use Rattle.fw_schedule.specs.Names.{are_names, node_with_name, edge_named, if_ki
 use Rattle.fw_schedule.specs.Schedule.{IsTimeIn, IsNodeOfKind, IsStepOf, IsItemOf, steps_in, step_count, step_limit}
 use Rattle.fw_schedule.specs.Stamps.{stamp_spelled}
 use Rattle.fw_schedule.specs.Steps.{told_stamp, delivery_on, notification_of, lone_step, stamped_step, named_step, is_name_at_stamp, short_step, failure_of, step_of}
+
+-- a line of two words, or of more than three, behind its verb spells no step
+pub no_form : (flow : Dataflow) (text verb : List ℕ) (words : List Span) → length words ≢ 0 → length words ≢ 1 → length words ≢ 3
+    → Err S1 ≡ short_step flow verb (words_at text words)
+no_form flow text verb [] none one three = absurd (none refl)
+no_form flow text verb (w ∷ []) none one three = absurd (one refl)
+no_form flow text verb (w ∷ v ∷ []) none one three = refl
+no_form flow text verb (w ∷ v ∷ u ∷ []) none one three = absurd (three refl)
+no_form flow text verb (w ∷ v ∷ u ∷ t ∷ words) none one three = refl
 
 -- a name stands below the end
 below : (name : List ℕ) (names : List (List ℕ)) (o : Option ℕ) → place_of name names ≡ o → IfSome o (λ place. place < length names)
@@ -113,7 +124,7 @@ named_sound flow verb name =
 
 short_sound : (flow : Dataflow) (verb : List ℕ) (words : List (List ℕ)) → IfOk (short_step flow verb words) (IsStepOf flow)
 short_sound flow verb [] = lone_sound flow verb
-short_sound flow verb (name ∷ []) = either (IsStepOf flow) (is_name name) (named_step flow verb name) (Err S1) (named_sound flow verb name) tt
+short_sound flow verb (name ∷ []) = either (IsStepOf flow) (is_full_name name) (named_step flow verb name) (Err S1) (named_sound flow verb name) tt
 short_sound flow verb (name ∷ at ∷ []) = tt
 short_sound flow verb (name ∷ at ∷ stamp ∷ []) = either (IsStepOf flow) (is_name_at_stamp name at stamp) (stamped_step flow verb name (Some stamp)) (Err S1) (stamped_sound flow verb name (Some stamp)) tt
 short_sound flow verb (name ∷ at ∷ stamp ∷ word ∷ words) = tt

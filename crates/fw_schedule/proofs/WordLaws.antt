@@ -1,5 +1,5 @@
 -- Names, numbers and stamps as the words of a line, and that they are read as what they are.
-use Rattle.std.proofs.Common.{◌≡◌, ℕ, suc, ◌<◌, ◌^◌, nat_le, nat_lt, Bool, true, false, ◌&&◌, cond, List, [], ◌∷◌, ◌++◌, length, map, get_or, Some, None, refl, sym, ◌∙◌, ap, inl, inr, arith}
+use Rattle.std.proofs.Common.{◌≡◌, ℕ, suc, ◌<◌, ◌^◌, nat_le, nat_lt, Bool, true, false, cond, List, [], ◌∷◌, ◌++◌, length, map, get_or, Some, None, refl, sym, ◌∙◌, ap, inl, inr, arith}
 use Rattle.std.proofs.lemmas.Bool.{and_from, and_parts, cases_lt}
 use Rattle.std.proofs.lemmas.Bool.Decides.{nat_tests}
 use Rattle.std.proofs.lemmas.Fmt.{decimal_nonempty}
@@ -20,7 +20,8 @@ use Rattle.fw_time.specs.Stamp.{Stamp, leq, in_domain}
 use Rattle.fw_time.specs.StampText.{dots_text, stamp_text}
 use Rattle.fw_time.proofs.DomainLaws.{domain-leq}
 use Rattle.fw_lines.specs.Lines.{is_word}
-use Rattle.fw_lines.specs.Spelling.{is_in_names, is_letter, is_name, is_numeral}
+use Rattle.fw_lines.specs.Spelling.{is_numeral}
+use Rattle.fw_flow.specs.FullNames.{is_full_name}
 use Rattle.fw_lines.specs.Written.{is_in_words, is_plain}
 use Rattle.fw_flow.specs.declared.kind.Domain.{Domain}
 use Rattle.fw_flow.specs.declared.kind.Domain.TheVariants.{Epoch, Number, Loop as InLoop}
@@ -31,17 +32,12 @@ use Rattle.fw_flow.specs.Dataflow.{Dataflow, node_at, bounds_of, domain_of, loop
 use Rattle.fw_flow.specs.DomainText.{name_of_edge}
 use Rattle.fw_flow.specs.Names.{place_of}
 use Rattle.fw_flow.specs.WellFormed.{IsWellFormed}
+use Rattle.fw_flow.proofs.FullNameLaws.{full_name_bytes, is_in_full_names}
 use Rattle.fw_schedule.specs.Names.{node_with_name, edge_named}
 use Rattle.fw_schedule.specs.Stamps.{coordinates, is_dot, is_stamp, stamp_spelled}
-use Rattle.fw_schedule.proofs.NumberLaws.{decimal_digits, decimal_numeral, decimal_value}
+use Rattle.fw_lines.proofs.DecimalLaws.{decimal_digits, decimal_numeral, decimal_value}
 
 -- ---- words
-
-letter_in_words : (b : ℕ) → is_letter b ≡ true → is_in_words b ≡ true
-letter_in_words b h = grind (arith, nat_tests, h)
-
-name_in_words : (b : ℕ) → is_in_names b ≡ true → is_in_words b ≡ true
-name_in_words b h = grind (arith, nat_tests, h)
 
 digit_in_words : (b : ℕ) → is_ascii_digit b ≡ true → is_in_words b ≡ true
 digit_in_words b h = grind (arith, nat_tests, h)
@@ -52,13 +48,17 @@ each_in_words test f (b ∷ bs) h =
     let parts = and_parts (test b) (list_all test bs) h in
     and_from (is_in_words b) (list_all is_in_words bs) (f b parts.0) (each_in_words test f bs parts.1)
 
--- a name can be a word
-pub plain-name : (name : List ℕ) → is_name name ≡ true → is_plain name ≡ true
-plain-name [] h = absurd (cc)
-plain-name (b ∷ bs) h =
-    let parts = and_parts (is_letter b) (nat_lt (length bs) 32 && list_all is_in_names bs) h in
-    let rest = and_parts (nat_lt (length bs) 32) (list_all is_in_names bs) parts.1 in
-    and_from (is_in_words b) (list_all is_in_words bs) (letter_in_words b parts.0) (each_in_words is_in_names name_in_words bs rest.1)
+full_in_words : (b : ℕ) → is_in_full_names b ≡ true → is_in_words b ≡ true
+full_in_words b h = grind (arith, nat_tests, h)
+
+full-some : (bs : List ℕ) → is_full_name bs ≡ true → is_word bs ≡ true
+full-some [] h = absurd (cc)
+full-some (b ∷ bs) h = refl
+
+-- a full name can be a word
+pub plain-name : (name : List ℕ) → is_full_name name ≡ true → is_plain name ≡ true
+plain-name name h =
+    and_from (is_word name) (list_all is_in_words name) (full-some name h) (each_in_words is_in_full_names full_in_words name (full_name_bytes name h))
 
 some_word : (bs : List ℕ) → 0 < length bs → is_word bs ≡ true
 some_word [] h = absurd (omega arith)

@@ -16,7 +16,7 @@ use Rattle.fw_time.specs.StampText.{stamp_text}
 use Rattle.fw_lines.specs.declared.refusal.Code.TheVariants.{S1, S2, S3, S4}
 use Rattle.fw_lines.specs.Faults.{BreakNoRule}
 use Rattle.fw_lines.specs.Lines.{Said, said_lines}
-use Rattle.fw_lines.specs.Spelling.{is_name}
+use Rattle.fw_flow.specs.FullNames.{is_full_name}
 use Rattle.fw_lines.specs.Written.{WordLine, is_plain, is_plain_line, line_text, numbered, spaced, text_of}
 use Rattle.fw_lines.proofs.FaultLaws.{Told, none_told, none_judged, IsSoundSoFar, none_left, sound_more}
 use Rattle.fw_lines.proofs.WrittenLaws.{said_lines-text_of}
@@ -36,7 +36,7 @@ use Rattle.fw_schedule.specs.Names.{if_kind, node_of_kind, nodes_named}
 use Rattle.fw_schedule.specs.Schedule.{IsItemOf, IsNodeOfKind, IsStepOf, IsTimeIn, step_count, step_limit, steps_in}
 use Rattle.fw_schedule.specs.Stamps.{is_stamp}
 use Rattle.fw_schedule.specs.Steps.{delivery_on, is_name_at_stamp, named_step, notification_of, stamped_step, told_stamp}
-use Rattle.fw_schedule.proofs.NumberLaws.{decimal_numeral, decimal_value}
+use Rattle.fw_lines.proofs.DecimalLaws.{decimal_numeral, decimal_value}
 use Rattle.fw_schedule.proofs.ReadLaws.{step_count-append}
 use Rattle.fw_schedule.proofs.WordLaws.{IsSpelled, edge_found, node_found, plain-name, plain-number, plain-stamp, stamp-spelled, stamp_read}
 
@@ -45,8 +45,8 @@ pub record IsNamed (flow : Dataflow) : Type 0 where
   pub well_formed : IsWellFormed flow
   pub nodes_once : IsDistinct bytes_eq (map (λ (n : Node). n.name) flow.nodes)
   pub edges_once : IsDistinct bytes_eq (map (λ (e : Edge). e.name) flow.edges)
-  pub nodes_named : AllByRecursion (λ (n : Node). is_name n.name ≡ true) flow.nodes
-  pub edges_named : AllByRecursion (λ (e : Edge). is_name e.name ≡ true) flow.edges
+  pub nodes_named : AllByRecursion (λ (n : Node). is_full_name n.name ≡ true) flow.nodes
+  pub edges_named : AllByRecursion (λ (e : Edge). is_full_name e.name ≡ true) flow.edges
 
 -- ---- lines and their words
 
@@ -112,13 +112,13 @@ text_lined flow (item ∷ items) =
 
 -- ---- steps
 
-node_name : (flow : Dataflow) → IsNamed flow → (p : ℕ) → p < length flow.nodes → is_name (node_at flow p).name ≡ true
+node_name : (flow : Dataflow) → IsNamed flow → (p : ℕ) → p < length flow.nodes → is_full_name (node_at flow p).name ≡ true
 unfolding node_at
-node_name flow h p lt = each-at (λ (n : Node). is_name n.name ≡ true) flow.nodes p idle_node lt h.nodes_named
+node_name flow h p lt = each-at (λ (n : Node). is_full_name n.name ≡ true) flow.nodes p idle_node lt h.nodes_named
 
-edge_name : (flow : Dataflow) → IsNamed flow → (e : ℕ) → e < length flow.edges → is_name (name_of_edge flow e) ≡ true
+edge_name : (flow : Dataflow) → IsNamed flow → (e : ℕ) → e < length flow.edges → is_full_name (name_of_edge flow e) ≡ true
 edge_name flow h e lt =
-    each-at (λ (e : Edge). is_name e.name ≡ true) flow.edges e (record { name = []; sender = length flow.nodes; receiver = length flow.nodes }) lt h.edges_named
+    each-at (λ (e : Edge). is_full_name e.name ≡ true) flow.edges e (record { name = []; sender = length flow.nodes; receiver = length flow.nodes }) lt h.edges_named
 
 -- a step of the flow: its words can be those of a line, and they spell it
 record IsStepLine (flow : Dataflow) (words : WordLine) (item : Item) : Type 0 where
@@ -173,10 +173,10 @@ told_read flow w p t inside =
     ap (λ s. cond (in_domain (bounds_of flow p) s) (Some (Some s)) None) same ∙ ap (λ b. cond b (Some (Some t)) None) inside
 
 -- a name, `at` and a stamp
-at_stamp : (name : List ℕ) (t : Stamp) → is_name name ≡ true → IsSpelled t → is_name_at_stamp name (codes "at") (stamp_text t) ≡ true
-at_stamp name t named spelled = and_from (is_name name) (is_stamp (stamp_text t)) named (stamp_read t spelled).0
+at_stamp : (name : List ℕ) (t : Stamp) → is_full_name name ≡ true → IsSpelled t → is_name_at_stamp name (codes "at") (stamp_text t) ≡ true
+at_stamp name t named spelled = and_from (is_full_name name) (is_stamp (stamp_text t)) named (stamp_read t spelled).0
 
-plain_told : (name : List ℕ) (t : Stamp) → is_name name ≡ true → IsSpelled t → list_all is_plain (name ∷ codes "at" ∷ stamp_text t ∷ []) && true ≡ true
+plain_told : (name : List ℕ) (t : Stamp) → is_full_name name ≡ true → IsSpelled t → list_all is_plain (name ∷ codes "at" ∷ stamp_text t ∷ []) && true ≡ true
 plain_told name t named spelled =
     and_from (is_plain name && (is_plain (stamp_text t) && true)) true (and_from (is_plain name) (is_plain (stamp_text t) && true) (plain-name name named) (and_from (is_plain (stamp_text t)) true (plain-stamp t spelled) refl)) refl
 
@@ -227,14 +227,14 @@ notified flow h p (Some t) there inside =
     }
 
 names_sound : (flow : Dataflow) → IsNamed flow → (nodes : List ℕ) → AllByRecursion (λ p. p < length flow.nodes) nodes
-    → (list_all is_plain (names flow nodes) ≡ true) × (list_all is_name (names flow nodes) ≡ true) × (nodes_named flow (names flow nodes) ≡ Some nodes)
+    → (list_all is_plain (names flow nodes) ≡ true) × (list_all is_full_name (names flow nodes) ≡ true) × (nodes_named flow (names flow nodes) ≡ Some nodes)
 names_sound flow h [] there = (refl, refl, refl)
 names_sound flow h (p ∷ ps) there =
     let name = (node_at flow p).name in
     let named = node_name flow h p there.0 in
     let rest = names_sound flow h ps there.1 in (
       and_from (is_plain name) (list_all is_plain (names flow ps)) (plain-name name named) rest.0,
-      and_from (is_name name) (list_all is_name (names flow ps)) named rest.1,
+      and_from (is_full_name name) (list_all is_full_name (names flow ps)) named rest.1,
       ap (λ o. option_and_then (λ node. option_map (λ nodes. node ∷ nodes) (nodes_named flow (names flow ps))) o) (node_found flow p h.nodes_once there.0)
           ∙ ap (option_map (λ nodes. p ∷ nodes)) rest.2,
     )

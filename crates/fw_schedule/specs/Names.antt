@@ -2,7 +2,7 @@
 use Rattle.std.specs.Prelude.{ℕ, Bool, false, ◌&&◌, List, [], ◌∷◌, map, if◌then◌else◌, Option, Some, None}
 use Rattle.std.specs.List.{list_all}
 use Rattle.std.specs.Option.{option_map, option_and_then}
-use Rattle.fw_lines.specs.Spelling.{is_name}
+use Rattle.fw_flow.specs.FullNames.{is_full_name}
 use Rattle.fw_flow.specs.Kind.{Kind}
 use Rattle.fw_flow.specs.declared.node.Node.{Node}
 use Rattle.fw_flow.specs.declared.node.Edge.{Edge}
@@ -12,7 +12,7 @@ use Rattle.fw_flow.specs.Names.{place_of}
 -- whether the words are one name or more
 abbrev pub are_names : List (List ℕ) → Bool
 are_names [] = false
-are_names (name ∷ names) = is_name name && list_all is_name names
+are_names (name ∷ names) = is_full_name name && list_all is_full_name names
 
 -- the place of the node with a name
 abbrev pub node_with_name : Dataflow → List ℕ → Option ℕ

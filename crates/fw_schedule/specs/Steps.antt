@@ -6,7 +6,7 @@ use Rattle.fw_time.specs.Stamp.{Stamp, in_domain}
 use Rattle.fw_time.specs.declared.stamp.Bounds.{Bounds}
 use Rattle.fw_lines.specs.declared.refusal.Code.{Code}
 use Rattle.fw_lines.specs.declared.refusal.Code.TheVariants.{S1, S2, S3}
-use Rattle.fw_lines.specs.Spelling.{is_name}
+use Rattle.fw_flow.specs.FullNames.{is_full_name}
 use Rattle.fw_flow.specs.declared.step.Step.{Step}
 use Rattle.fw_flow.specs.declared.step.Step.TheVariants.{Inject, Deliver, Notify, Progress, Checkpoint, Persist, Fail, Recover, Collect, Ack}
 use Rattle.fw_flow.specs.Dataflow.{Dataflow, receiver, bounds_of, is_input_kind, is_output_kind}
@@ -51,12 +51,12 @@ named_step flow verb name =
 
 -- whether three words are a name, `at` and a stamp
 abbrev pub is_name_at_stamp : List ℕ → List ℕ → List ℕ → Bool
-is_name_at_stamp name at stamp = is_name name && (bytes_eq at (codes "at") && is_stamp stamp)
+is_name_at_stamp name at stamp = is_full_name name && (bytes_eq at (codes "at") && is_stamp stamp)
 
 -- the step of a line of a verb and at most a name and a stamp
 abbrev pub short_step : Dataflow → List ℕ → List (List ℕ) → Result Step Code
 short_step flow verb [] = lone_step verb
-short_step flow verb (name ∷ []) = if is_name name then named_step flow verb name else Err S1
+short_step flow verb (name ∷ []) = if is_full_name name then named_step flow verb name else Err S1
 short_step flow verb (name ∷ at ∷ []) = Err S1
 short_step flow verb (name ∷ at ∷ stamp ∷ []) = if is_name_at_stamp name at stamp then stamped_step flow verb name (Some stamp) else Err S1
 short_step flow verb (name ∷ at ∷ stamp ∷ word ∷ words) = Err S1

@@ -3,12 +3,12 @@ ghost use Rattle.std.specs.Prelude.{◌≡◌, IfOk};
 ghost use Rattle.std.specs.List.{list_all};
 ghost use Rattle.fw_flow.specs.Dataflow.{is_input_kind, is_output_kind};
 ghost use Rattle.fw_lines.specs.Lines.{bytes_at, words_at};
-ghost use Rattle.fw_lines.specs.Spelling as lines;
+ghost use Rattle.fw_flow.specs.FullNames as spelled;
 ghost use Rattle.fw_schedule.specs.Names as spec;
 ghost use Rattle.fw_schedule.specs.Names.{node_of_kind};
 
-use fw_flow::{Flow, NodeId, Nodes};
-use fw_lines::{Span, is_name};
+use fw_flow::{Flow, NodeId, Nodes, is_full_name};
+use fw_lines::Span;
 use std::alloc::{AllocError, Global};
 
 /// Whether the words are one name or more.
@@ -20,9 +20,9 @@ pub fn are_names(text: &[u8], words: &[Span]) -> bool
 
 // Whether each word is a name.
 fn are_all_names(text: &[u8], words: &[Span]) -> bool
-    ensures { result ≡ list_all (λ word. lines.is_name (bytes_at text.now word)) words.now }
+    ensures { result ≡ list_all (λ word. spelled.is_full_name (bytes_at text.now word)) words.now }
 {
-    words.iter().all(|word| is_name(word.of(text)))
+    words.iter().all(|word| is_full_name(word.of(text)))
 }
 
 /// The nodes with these names, in their order; nothing where one of them is not that of a node.

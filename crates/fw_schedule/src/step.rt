@@ -10,8 +10,8 @@ ghost use Rattle.fw_schedule.specs.Steps.{told_stamp};
 
 use crate::coordinates::{is_stamp, stamp_up_to};
 use crate::names::{are_names, nodes_named, output_named, source_named};
-use fw_flow::{Flow, Step};
-use fw_lines::{Code, Span, is_name};
+use fw_flow::{Flow, Step, is_full_name};
+use fw_lines::{Code, Span};
 use fw_time::{Bounds, Stamp};
 use std::alloc::{AllocError, Global};
 
@@ -66,7 +66,7 @@ fn short_step(text: &[u8], verb: &[u8], words: &[Span], flow: &Flow) -> Result<S
 fn step_of_name(text: &[u8], verb: &[u8], name: Span, flow: &Flow) -> Result<Step, Code>
     ensures { result ≡ spec.short_step flow.now verb.now (bytes_at text.now name ∷ []) }
 {
-    if is_name(name.of(text)) {
+    if is_full_name(name.of(text)) {
         named_step(text, verb, name, flow)
     } else {
         Err(Code::S1)
@@ -98,7 +98,7 @@ fn is_name_at_stamp(text: &[u8], name: Span, at: Span, stamp: Span) -> bool
         (bytes_at text.now stamp) }
     ensures spelled { result ≡ true → stamps.is_stamp (bytes_at text.now stamp) ≡ true }
 {
-    is_name(name.of(text)) && is_word(at.of(text), b"at") && is_stamp(stamp.of(text))
+    is_full_name(name.of(text)) && is_word(at.of(text), b"at") && is_stamp(stamp.of(text))
 }
 
 // The step of a line of one word.

@@ -1,7 +1,7 @@
 -- Frontiers that grow: what it keeps, and what it leaves to be widened.
 use Rattle.std.proofs.Common.{◌↔◌, ◌≡◌, ◌≢◌, ℕ, suc, ◌+◌, ◌*◌, ◌<◌, ◌≤◌, Bool, true, false, not, ◌==◌, nat_lt, cond, List, [], ◌∷◌, ◌++◌, length, get_or, set, refl, sym, ap, subst, ◌∙◌, inl, inr, arith, append_assoc}
 use Rattle.std.specs.List.{list_all}
-use Rattle.std.proofs.lemmas.Bool.{and_parts, and_from, cases_Bool, cases_eq, cases_lt, false_from_ne_true, lt-ltb, both_ways, not-true}
+use Rattle.std.proofs.lemmas.Bool.{and_parts, and_from, cases_Bool, cases_eq, cases_lt, eqb-true, false_from_ne_true, lt-ltb, both_ways, not-true}
 use Rattle.std.proofs.lemmas.List.{get_or-set_same, get_or-set_other, get_or_past, length-set}
 use Rattle.fw_lemmas.proofs.Each.{all-of_each}
 use Rattle.fw_lemmas.proofs.Lists.{read_at}
@@ -11,6 +11,7 @@ use Rattle.fw_time.proofs.DomainLaws.{domain-leq}
 use Rattle.fw_frontier.specs.Frontier.{Frontier, Within}
 use Rattle.fw_frontier.specs.Front.{Front, inside, frontier_of, IsCanonical, IsFrontOf}
 use Rattle.fw_frontier.proofs.NamesLaws.{frontier-closed}
+use Rattle.fw_flow.specs.Counting.{how_many}
 use Rattle.fw_flow.specs.Dataflow.{Dataflow, sender, receiver, edges_from, out_edges, bounds_of, node_frontier}
 use Rattle.fw_flow.specs.declared.node.Edge.{Edge}
 use Rattle.fw_flow.specs.WellFormed.{IsWellFormed}
@@ -20,7 +21,7 @@ use Rattle.fw_model.proofs.DescentLaws.{total, total-less, covers-at}
 use Rattle.fw_progress.specs.declared.counts.Counts.{Counts}
 use Rattle.fw_progress.specs.declared.growth.Growth.{Growth}
 use Rattle.fw_progress.specs.Counts.{come_by, target_by, IsAdmissibleBy, IsStuckBy, is_in}
-use Rattle.fw_progress.specs.Growths.{IsMore, IsNoMore, AreGrowths, out_degrees, ArePut, IsGrown, HaveGrown, IsWidened}
+use Rattle.fw_progress.specs.Growths.{IsMore, IsNoMore, AreGrowths, out_degrees, times_grown, ArePut, IsGrown, HaveGrown, IsWidened, GrewAlone}
 use Rattle.fw_progress.proofs.TargetLaws.{target-monotone, target-less}
 
 -- ---- one front in a list of one for each node
@@ -162,11 +163,42 @@ grown_then flow counts old mid new work some rest growths more most a b =
       leaves = λ q l out s. b.leaves q l out (a.leaves q l (false_from_ne_true (is_in some q) (λ k. both_ways (is_in rest q) out (b.stays q k))) s);
     }
 
+-- a growth more is one of its node
+many-more : {X : Type 0} (test : X → Bool) (xs : List X) (x : X) → how_many test (xs ++ x ∷ []) ≡ how_many test xs + cond (test x) 1 0
+many-more test [] x = by (test x)
+  where
+    by : (b : Bool) → cond b 1 0 ≡ 0 + cond b 1 0
+    by true = refl
+    by false = refl
+many-more test (y ∷ xs) x = by (test y) (many-more test xs x)
+  where
+    by : (b : Bool) → how_many test (xs ++ x ∷ []) ≡ how_many test xs + cond (test x) 1 0
+        → cond b (how_many test (xs ++ x ∷ []) + 1) (how_many test (xs ++ x ∷ [])) ≡ cond b (how_many test xs + 1) (how_many test xs) + cond (test x) 1 0
+    by true h = omega arith
+    by false h = h
+
+pub no_growth : (p : ℕ) (growths : List Growth) → GrewAlone p growths growths
+no_growth p growths = record { here = omega arith; others = λ q n. refl }
+
+pub one_growth : (p : ℕ) (f : Front) (growths more : List Growth) → more ≡ growths ++ record { node = p; front = f } ∷ [] → GrewAlone p growths more
+one_growth p f growths more e =
+    let count : (q : ℕ) → times_grown more q ≡ times_grown growths q + cond (p == q) 1 0
+    = λ q. ap (λ gs. times_grown gs q) e ∙ many-more (λ (g : Growth). g.node == q) growths (record { node = p; front = f }) in
+    record {
+      here = let c = count p in let l = one-most (p == p) in omega arith;
+      others = λ q n. count q ∙ ap (λ b. times_grown growths q + cond b 1 0) (false_from_ne_true (p == q) (λ k. n (sym (eqb-true p q k)))) ∙ omega arith;
+    }
+  where
+    one-most : (b : Bool) → cond b 1 0 ≤ 1
+    one-most true = omega arith
+    one-most false = omega arith
+
 -- ---- a node is widened, or has the largest frontier
 
 pub widened_same : (flow : Dataflow) (counts : Counts) (p : ℕ) (old : List Front) (work : List ℕ) (growths : List Growth) → p < length flow.nodes → IsNoMore flow counts old p
     → IsWidened flow counts p old old work work growths growths
 widened_same flow counts p old work growths l none = record {
+  once = inr (record { none = none; same = refl; same_work = refl; same_growths = refl });
   grew = none_grown flow counts old work growths;
   admissible = λ a. a;
   stuck = λ a out. none (a.within p l);
@@ -176,6 +208,7 @@ pub widened_more : (flow : Dataflow) (counts : Counts) (p : ℕ) (old new : List
     → IsFrontOf (bounds_of flow p) f (target_by flow counts (family_of flow old) p) → IsMore flow old p f → IsGrown flow p f old new work rest growths more
     → IsWidened flow counts p old new work rest growths more
 widened_more flow counts p old new work rest growths more f w l n m g = record {
+  once = inl (record { front = f; most = n; larger = m; grown = g });
   grew = one_grown flow counts p f old new work rest growths more w l n.canonical m g;
   admissible = λ a. subst (λ xs. IsAdmissibleBy flow counts (family_of flow xs)) (sym g.changed) (widened-admissible flow counts old p f l n m.above a);
   stuck = λ a out. subst (λ xs. IsStuckBy flow counts xs p) (sym g.changed)

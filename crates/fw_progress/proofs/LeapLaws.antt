@@ -14,10 +14,10 @@ use Rattle.fw_model.specs.Machine.{front_of, family_of, AreCanonical}
 use Rattle.fw_progress.specs.declared.counts.Counts.{Counts}
 use Rattle.fw_progress.specs.declared.growth.Growth.{Growth}
 use Rattle.fw_progress.specs.Counts.{target_by, IsAdmissibleBy}
-use Rattle.fw_progress.specs.Growths.{IsMore, IsGrown, HaveGrown}
+use Rattle.fw_progress.specs.Growths.{IsMore, times_grown, GrewOnce, IsGrown, HaveGrown, GrewAlone}
 use Rattle.fw_progress.specs.Leap.{is_node_marked, CanLeapAt, CanLeap, AreAbove, IsReachedAt, HaveReached, HaveLeapt, IsClimbing, AreLedTo, AreProposed, AreNoneProposed, IsWithoutProposal, CannotLeap, AreLowered, StaysLow}
 use Rattle.fw_progress.proofs.TargetLaws.{target-monotone}
-use Rattle.fw_progress.proofs.GrowLaws.{family_new, family_old, family_grows, none_grown, one_grown, grown_then}
+use Rattle.fw_progress.proofs.GrowLaws.{family_new, family_old, family_grows, none_grown, one_grown, grown_then, one_growth}
 use Rattle.fw_progress.proofs.StartLaws.{past-all}
 
 -- ---- the law
@@ -74,6 +74,8 @@ reached_more flow p old next l w =
 -- the first nodes have reached their next frontiers
 pub record AreReached (flow : Dataflow) (counts : Counts) (n : ℕ) (old next new : List Front) (work rest : List ℕ) (growths more : List Growth) : Type 0 where
   pub grown : HaveGrown flow counts old new work rest growths more
+  pub once : GrewOnce growths more
+  pub others : (q : ℕ) → n ≤ q → times_grown more q ≡ times_grown growths q
   pub one_each : length new ≡ length flow.nodes
   pub canonical : AreCanonical flow new
   pub below : AreAbove flow new next
@@ -83,6 +85,8 @@ pub none_reached : (flow : Dataflow) (counts : Counts) (old next : List Front) (
     → AreReached flow counts 0 old next old work work growths growths
 none_reached flow counts old next work growths one c a = record {
   grown = none_grown flow counts old work growths;
+  once = λ q. omega arith;
+  others = λ q l. refl;
   one_each = one;
   canonical = c;
   below = a;
@@ -90,10 +94,21 @@ none_reached flow counts old next work growths one c a = record {
 }
 
 pub one_reached : (flow : Dataflow) (counts : Counts) (n p : ℕ) (old next mid new : List Front) (work some rest : List ℕ) (growths more most : List Growth) → p ≡ n → n < length flow.nodes
-    → AreReached flow counts n old next mid work some growths more → HaveGrown flow counts mid new some rest more most → IsReachedAt flow p mid next new
+    → AreReached flow counts n old next mid work some growths more → HaveGrown flow counts mid new some rest more most → GrewAlone p more most → IsReachedAt flow p mid next new
     → AreReached flow counts (n + 1) old next new work rest growths most
-one_reached flow counts n p old next mid new work some rest growths more most e l a g r = record {
+one_reached flow counts n p old next mid new work some rest growths more most e l a g o r = record {
   grown = grown_then flow counts old mid new work some rest growths more most a.grown g;
+  once = λ q. elim (cases_eq q p) [
+    | inl s ↦
+        let before = a.others p (omega (arith, e)) in
+        let here = o.here in
+        subst (λ x. times_grown most x ≤ times_grown growths x + 1) (sym s) (omega (arith, before, here))
+    | inr s ↦
+        let same = o.others q s in
+        let before = a.once q in
+        omega (arith, same, before)
+  ];
+  others = λ q k. o.others q (λ s. absurd (omega (arith, k, s, e))) ∙ a.others q (omega (arith, k));
   one_each = g.one_each ∙ a.one_each;
   canonical = g.canonical a.canonical;
   below = r.below a.below;
@@ -109,6 +124,7 @@ pub all_reached : (flow : Dataflow) (counts : Counts) (n : ℕ) (old next new : 
     → AreReached flow counts n old next new work rest growths more → HaveReached flow counts old next new work rest growths more
 all_reached flow counts n old next new work rest growths more l a = record {
   grew = a.grown;
+  once = a.once;
   below = a.below;
   above = λ q m. a.reached q (omega (arith, l, m)) m;
 }
@@ -116,13 +132,14 @@ all_reached flow counts n old next new work rest growths more l a = record {
 -- a node that can have more gets it
 pub one_more : (flow : Dataflow) (counts : Counts) (p i : ℕ) (f x : Front) (old next new : List Front) (work rest : List ℕ) (growths more : List Growth) → IsWellFormed flow → p < length old
     → AreCanonical flow next → i ≡ p → i < length next → x ≡ get_or next i x → f ≡ x → IsMore flow old p x → IsGrown flow p f old new work rest growths more
-    → HaveGrown flow counts old new work rest growths more × IsReachedAt flow p old next new
+    → HaveGrown flow counts old new work rest growths more × GrewAlone p growths more × IsReachedAt flow p old next new
 one_more flow counts p i f x old next new work rest growths more w l c e k is same m g =
     let here : f ≡ front_of next p = same ∙ read_at next p i x [] e k is in
     let mine : IsMore flow old p f = subst (IsMore flow old p) (sym same) m in
     let to : new ≡ set old p (front_of next p) = g.changed ∙ ap (set old p) here in
     let above = subst (λ h. Within (family_of flow old p) (node_frontier flow p h)) here mine.above in (
       one_grown flow counts p f old new work rest growths more w l (subst (IsCanonical (bounds_of flow p)) (sym here) (c p)) mine g,
+      one_growth p f growths more g.listed,
       subst (IsReachedAt flow p old next) (sym to) (reached_more flow p old next l above),
     )
 
@@ -133,6 +150,7 @@ none-leapt : (flow : Dataflow) (counts : Counts) (p : ℕ) (old : List Front) (w
     → (IsClimbing flow counts old growths p → ⊥) ⊎ (IsWithoutProposal flow counts p old ⊎ CannotLeap flow counts p old) → HaveLeapt flow counts p old old work work growths growths
 none-leapt flow counts p old work growths why = record {
   grew = none_grown flow counts old work growths;
+  once = λ q. omega arith;
   admissible = λ a. a;
   taken = inr (record { same = refl; same_work = refl; same_growths = refl; why = why });
 }
@@ -155,6 +173,7 @@ pub have_leapt : (flow : Dataflow) (counts : Counts) (p : ℕ) (old next new : L
     → CanLeap flow counts old next → HaveReached flow counts old next new work rest growths more → HaveLeapt flow counts p old new work rest growths more
 have_leapt flow counts p old next new work rest growths more marks one two climbs led proposed can r = record {
   grew = r.grew;
+  once = r.once;
   admissible = λ a. same-admissible flow counts next new (r.grew.one_each ∙ one) r.below r.above (leap-admissible flow counts old next two can a);
   taken = inl (record { climbs = climbs; marks = marks; led = led; next = next; proposed = proposed; can = can; below = r.below; above = r.above });
 }

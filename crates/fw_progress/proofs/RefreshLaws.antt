@@ -9,7 +9,7 @@ use Rattle.fw_model.specs.Machine.{family_of, AreCanonical}
 use Rattle.fw_progress.specs.declared.counts.Counts.{Counts}
 use Rattle.fw_progress.specs.declared.growth.Growth.{Growth}
 use Rattle.fw_progress.specs.Counts.{IsAdmissibleBy, IsStuckBy, is_in, AreStuckOutside, AreNodes}
-use Rattle.fw_progress.specs.Growths.{AreGrowths, out_degrees, IsWidened}
+use Rattle.fw_progress.specs.Growths.{AreGrowths, out_degrees, HaveGrown}
 use Rattle.fw_progress.specs.Refresh.{IsTakenUp, AreTakenInTurn, IsRefreshed}
 use Rattle.fw_progress.proofs.GrowLaws.{outside_count, growths_outside, degrees-append, degrees-few, growths-append, grown_then}
 
@@ -28,17 +28,11 @@ pub record IsRefreshing (flow : Dataflow) (counts : Counts) (first : List Front)
   pub counted : steps ≡ begun + count
   pub still : start ≡ [] → (work ≡ []) × (fronts ≡ first)
 
--- a node that was taken up was widened, by the leap or after it
-taken-widened : (flow : Dataflow) (counts : Counts) (p : ℕ) (old new : List Front) (work rest : List ℕ) (growths more : List Growth)
-    → IsTakenUp flow counts p old new work rest growths more → IsWidened flow counts p old new work rest growths more
-taken-widened flow counts p old new work rest growths more t =
-    let a = t.leapt in
-    let b = t.widened in
-    record {
-      grew = grown_then flow counts old t.mid new work t.between rest growths t.some more a.grew b.grew;
-      admissible = λ k. b.admissible (a.admissible k);
-      stuck = λ k out. b.stuck (a.admissible k) out;
-    }
+-- where a node was taken up frontiers grew, by the leap and after it
+taken-grew : (flow : Dataflow) (counts : Counts) (p : ℕ) (old new : List Front) (work rest : List ℕ) (growths more : List Growth)
+    → IsTakenUp flow counts p old new work rest growths more → HaveGrown flow counts old new work rest growths more
+taken-grew flow counts p old new work rest growths more t =
+    grown_then flow counts old t.mid new work t.between rest growths t.some more t.leapt.grew t.widened.grew
 
 -- how much is left
 unfoldable pub left_over : Dataflow → List Front → List ℕ → ℕ
@@ -80,8 +74,7 @@ pub taken_step : (flow : Dataflow) (counts : Counts) (first : List Front) (start
     → work ≡ p ∷ mid → next ≡ steps + 1 → IsRefreshing flow counts first start begun fronts work growths steps
     → IsTakenUp flow counts p fronts new mid rest growths more → IsRefreshing flow counts first start begun new rest more next
 taken_step flow counts first start begun fronts new work mid rest p growths more steps next e s r u =
-    let a = taken-widened flow counts p fronts new mid rest growths more u in
-    let g = a.grew in
+    let g = taken-grew flow counts p fronts new mid rest growths more u in
     let there = first_node flow work mid p e r.nodes in
     let long : length work ≡ length mid + 1 = ap length e ∙ (omega arith) in
     let few = g.few in
@@ -93,9 +86,9 @@ taken_step flow counts first start begun fronts new work mid rest p growths more
       one_each = g.one_each ∙ r.one_each;
       canonical = g.canonical r.canonical;
       nodes = g.nodes there.1;
-      admissible = λ k. a.admissible (r.admissible k);
+      admissible = λ k. u.widened.admissible (u.leapt.admissible (r.admissible k));
       stuck = λ k j q l out. elim (cases_eq q p) [
-        | inl i ↦ subst (IsStuckBy flow counts new) (sym i) (a.stuck (r.admissible k) (sym (ap (is_in rest) i) ∙ out))
+        | inl i ↦ subst (IsStuckBy flow counts new) (sym i) (u.widened.stuck (u.leapt.admissible (r.admissible k)) (sym (ap (is_in rest) i) ∙ out))
         | inr n ↦
             let free : is_in mid q ≡ false = false_from_ne_true (is_in mid q) (λ m. both_ways (is_in rest q) out (g.stays q m)) in
             g.leaves q l out (r.stuck k j q l (ap (λ xs. is_in xs q) e ∙ not_in-first mid p q n free))
@@ -122,7 +115,7 @@ pub taken_falls : (flow : Dataflow) (counts : Counts) (fronts new : List Front) 
     → IsTakenUp flow counts p fronts new mid rest growths more → left_over flow new rest < left_over flow fronts work
 unfolding left_over
 taken_falls flow counts fronts new work mid rest p growths more one e u =
-    let g = (taken-widened flow counts p fronts new mid rest growths more u).grew in
+    let g = taken-grew flow counts p fronts new mid rest growths more u in
     let long : length work ≡ length mid + 1 = ap length e ∙ (omega arith) in
     let less = growths_outside flow fronts g.added new one g.grown in
     let h = falls (length flow.edges) (length g.added) (outside_count flow new) (outside_count flow fronts) (length rest) (length mid) (out_degrees flow g.added) less g.few (degrees-few flow g.added) in

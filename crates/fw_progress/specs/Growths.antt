@@ -1,9 +1,10 @@
 -- Frontiers that grow, one after the other.
-use Rattle.std.specs.Prelude.{◌≡◌, ℕ, ◌+◌, ◌<◌, ◌≤◌, Bool, true, false, List, [], ◌∷◌, ◌++◌, length, set}
+use Rattle.std.specs.Prelude.{◌≡◌, ◌≢◌, ◌⊎◌, ℕ, ◌+◌, ◌<◌, ◌≤◌, ◌==◌, Bool, true, false, List, [], ◌∷◌, ◌++◌, length, set}
 use Rattle.std.specs.List.{AllByRecursion, list_all}
 use Rattle.fw_frontier.specs.Frontier.{Within}
-use Rattle.fw_frontier.specs.Front.{Front}
-use Rattle.fw_flow.specs.Dataflow.{Dataflow, receiver, out_edges, node_frontier}
+use Rattle.fw_frontier.specs.Front.{Front, IsFrontOf}
+use Rattle.fw_flow.specs.Counting.{how_many}
+use Rattle.fw_flow.specs.Dataflow.{Dataflow, receiver, out_edges, bounds_of, node_frontier}
 use Rattle.fw_model.specs.Machine.{family_of, AreCanonical}
 use Rattle.fw_progress.specs.declared.counts.Counts.{Counts}
 use Rattle.fw_progress.specs.declared.growth.Growth.{Growth}
@@ -29,6 +30,14 @@ abbrev pub out_degrees : Dataflow → List Growth → ℕ
 out_degrees flow [] = 0
 out_degrees flow (g ∷ gs) = length (out_edges flow g.node) + out_degrees flow gs
 
+-- how often a node is among the growths
+abbrev pub times_grown : List Growth → ℕ → ℕ
+times_grown growths p = how_many (λ (g : Growth). g.node == p) growths
+
+-- each node grew once more at most
+abbrev pub GrewOnce : List Growth → List Growth → Type 0
+GrewOnce growths more = (p : ℕ) → times_grown more p ≤ times_grown growths p + 1
+
 -- the node is in the list, and what was there is; nothing else is, and it is longer by one at most, and never shorter
 pub record IsEnlisted (node : ℕ) (old new : List ℕ) : Type 0 where
   pub there : is_in new node ≡ true
@@ -36,8 +45,6 @@ pub record IsEnlisted (node : ℕ) (old new : List ℕ) : Type 0 where
   pub nodes : (P : ℕ → Bool) → P node ≡ true → list_all P old ≡ true → list_all P new ≡ true
   pub few : length new ≤ length old + 1
   pub none_out : length old ≤ length new
-
--- ---- for the proofs
 
 -- the receivers of these edges are put into the list, one after the other
 pub record ArePut (flow : Dataflow) (edges : List ℕ) (old new : List ℕ) : Type 0 where
@@ -67,8 +74,32 @@ pub record HaveGrown (flow : Dataflow) (counts : Counts) (old new : List Front) 
   pub stays : (q : ℕ) → is_in work q ≡ true → is_in rest q ≡ true
   pub leaves : (q : ℕ) → q < length flow.nodes → is_in rest q ≡ false → IsStuckBy flow counts old q → IsStuckBy flow counts new q
 
--- a node was widened: frontiers grew, and unless it waits again it has the largest that it can have
+-- Node p had less than it can have by the frontiers so far, and has all of that at once: it grew, no other node did, and the receivers
+-- of its out-edges wait.
+pub record IsWidenedOnce (flow : Dataflow) (counts : Counts) (p : ℕ) (old new : List Front) (work rest : List ℕ) (growths more : List Growth) : Type 0 where
+  pub front : Front
+  pub most : IsFrontOf (bounds_of flow p) front (target_by flow counts (family_of flow old) p)
+  pub larger : IsMore flow old p front
+  pub grown : IsGrown flow p front old new work rest growths more
+
+-- Node p can have no more, and nothing changed.
+pub record IsNotWidened (flow : Dataflow) (counts : Counts) (p : ℕ) (old new : List Front) (work rest : List ℕ) (growths more : List Growth) : Type 0 where
+  pub none : IsNoMore flow counts old p
+  pub same : new ≡ old
+  pub same_work : rest ≡ work
+  pub same_growths : more ≡ growths
+
+-- A node was widened: it alone grew, once, to the largest frontier that it can have, or nothing changed. Unless it waits again it can
+-- have no more.
 pub record IsWidened (flow : Dataflow) (counts : Counts) (p : ℕ) (old new : List Front) (work rest : List ℕ) (growths more : List Growth) : Type 0 where
+  pub once : IsWidenedOnce flow counts p old new work rest growths more ⊎ IsNotWidened flow counts p old new work rest growths more
   pub grew : HaveGrown flow counts old new work rest growths more
   pub admissible : IsAdmissibleBy flow counts (family_of flow old) → IsAdmissibleBy flow counts (family_of flow new)
   pub stuck : IsAdmissibleBy flow counts (family_of flow old) → is_in rest p ≡ false → IsStuckBy flow counts new p
+
+-- ---- for the proofs
+
+-- node p grew once more at most, and no other node did
+pub record GrewAlone (p : ℕ) (growths more : List Growth) : Type 0 where
+  pub here : times_grown more p ≤ times_grown growths p + 1
+  pub others : (q : ℕ) → q ≢ p → times_grown more q ≡ times_grown growths q

@@ -9,7 +9,7 @@ use Rattle.fw_model.specs.Machine.{front_of, family_of}
 use Rattle.fw_progress.specs.declared.counts.Counts.{Counts}
 use Rattle.fw_progress.specs.declared.growth.Growth.{Growth}
 use Rattle.fw_progress.specs.Counts.{target_by, IsAdmissibleBy, is_in}
-use Rattle.fw_progress.specs.Growths.{HaveGrown}
+use Rattle.fw_progress.specs.Growths.{GrewOnce, HaveGrown}
 
 -- Node p leads a loop to its next counter, grew before among these growths, and can have more than it has.
 pub record IsClimbing (flow : Dataflow) (counts : Counts) (fronts : List Front) (growths : List Growth) (p : ℕ) : Type 0 where
@@ -58,9 +58,10 @@ pub record IsReachedAt (flow : Dataflow) (p : ℕ) (old next new : List Front) :
   pub below : AreAbove flow old next → AreAbove flow new next
   pub here : Within (family_of flow old p) (family_of flow next p) → Within (family_of flow next p) (family_of flow new p)
 
--- Frontiers grew to their next ones, one after the other.
+-- Frontiers grew to their next ones, one after the other, each of them once.
 pub record HaveReached (flow : Dataflow) (counts : Counts) (old next new : List Front) (work rest : List ℕ) (growths more : List Growth) : Type 0 where
   pub grew : HaveGrown flow counts old new work rest growths more
+  pub once : GrewOnce growths more
   pub below : AreAbove flow new next
   pub above : AreAbove flow next new
 
@@ -169,9 +170,11 @@ pub record IsNoLeap (flow : Dataflow) (counts : Counts) (p : ℕ) (old new : Lis
   pub same_growths : more ≡ growths
   pub why : (IsClimbing flow counts old growths p → ⊥) ⊎ (IsWithoutProposal flow counts p old ⊎ CannotLeap flow counts p old)
 
--- Frontiers grew to others at once: what was admissible is so then. A leap is taken, or nothing changed, and then for a reason.
+-- Frontiers grew to others at once, each node's by one growth: what was admissible is so then. A leap is taken, or nothing changed, and
+-- then for a reason.
 pub record HaveLeapt (flow : Dataflow) (counts : Counts) (p : ℕ) (old new : List Front) (work rest : List ℕ) (growths more : List Growth) : Type 0 where
   pub grew : HaveGrown flow counts old new work rest growths more
+  pub once : GrewOnce growths more
   pub admissible : IsAdmissibleBy flow counts (family_of flow old) → IsAdmissibleBy flow counts (family_of flow new)
   pub taken : IsLeapTaken flow counts p old new growths ⊎ IsNoLeap flow counts p old new work rest growths more
 

@@ -5,7 +5,7 @@ ghost use Rattle.fw_flow.specs.Dataflow.{out_edges};
 ghost use Rattle.fw_model.specs.Machine.{AreCanonical};
 ghost use Rattle.fw_progress.specs.declared.growth.Growth.{Growth as Grown};
 ghost use Rattle.fw_progress.specs.Counts.{AreCounts};
-ghost use Rattle.fw_progress.specs.Growths.{HaveGrown};
+ghost use Rattle.fw_progress.specs.Growths.{HaveGrown, GrewAlone};
 ghost use Rattle.fw_progress.specs.Leap as spec;
 ghost use Rattle.fw_progress.specs.Leap.{IsClimbing, AreLedTo, IsMarking, unmarked, CanLeapAt, CanLeap, AreAbove, IsReachedAt, HaveReached, HaveLeapt, AreRaisedAtMarks, AreLowered, IsLoweredAt, StaysLow, IsPass, IsLastPass, AreProposed, AreNoneProposed};
 
@@ -304,6 +304,7 @@ fn reach_at(
     requires next_canonical { AreCanonical flow.now next.now }
     ensures grown { IfOk result (λ u. HaveGrown flow.now counts.now fronts.old.items fronts.new.items work.old work.new
         growths.old.items growths.new.items) }
+    ensures alone { IfOk result (λ u. GrewAlone node growths.old.items growths.new.items) }
     ensures reached { IfOk result (λ u. IsReachedAt flow.now node fronts.old.items next.now fronts.new.items) }
 {
     flow_is_well_formed(flow);

@@ -100,8 +100,8 @@ pub record EngineAnswers {K : Type 0} (view : K → StoreView) (old : Engine) (b
   pub draws : step ≢ Collect → StepDraws (running_of old) (view before).records result (running_of new) (view after).records
   pub undrawn : step ≡ Collect → supply (keep_of new) ≡ supply (keep_of old)
   -- The store's count of faults rises by one at StoreFault (at 2^64 - 1 it stays), and at no other answer. StoreFault comes only in a
-  -- step that may call the store: one that asks for a write in the state, a recovery that is enabled, or a collection. Then the engine
-  -- stands where it stood, or where the collection led.
+  -- step that may call the store: one that asks for a write in the state, a recovery that is enabled and whose choice asks for a record,
+  -- or a collection. Then the engine stands where it stood, or where the collection led.
   pub faults : (view after).faults ≡ faults_after_step result (view before).faults
   pub calls : IsErrOf result fault.StoreFault → MayCallStore (flow_of old) step
   pub faulted : ForEachState old (view before).records (λ sys state. IsErrOf result fault.StoreFault

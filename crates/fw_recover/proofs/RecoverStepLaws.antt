@@ -17,7 +17,7 @@ use Rattle.fw_keep.specs.declared.fault.KeepFault.{KeepFault}
 use Rattle.fw_keep.specs.declared.fault.KeepFault.TheVariants as keep
 use Rattle.fw_keep.specs.Stored.{Records, HoldsAs, bytes_under}
 use Rattle.fw_rollback.specs.declared.parts.Parts.{Parts}
-use Rattle.fw_rollback.specs.Asked.{is_asked_for, IsEntryDamaged, IsDamagedIfSaid}
+use Rattle.fw_rollback.specs.Asked.{is_asked_for, IsEntryDamaged, ComesOfReading}
 use Rattle.fw_stands.specs.Written.{AreStored, IsHeldAs, uncollected}
 use Rattle.fw_stands.proofs.RecoveredFacts.{each-contained}
 use Rattle.fw_running.specs.declared.fault.EngineFault.{EngineFault}
@@ -143,18 +143,35 @@ damaged-untold old choice records got id bytes sys state a d =
     untold sys state choice records old.parts.keep.entries got id bytes a.stored
     (subst (λ flow. IsEntryDamaged flow choice records old.parts.keep.entries got id bytes) a.flow d)
 
+-- the largest choice asks for the entry
+asked-in : (old : Running) (choice : Choice) (entries : List Entry) (entry : Entry) → IsChosenBy old Failed choice
+    → is_asked_for old.flow choice entries entry ≡ true
+    → (sys : System) (records : Option Records) (state : Machine) → Stands sys old records state → IsAskedIn sys entries entry state
+asked-in old choice entries entry chosen asked sys records state s =
+    (choice, chosen sys records state s, subst (λ flow. is_asked_for flow choice entries entry ≡ true) s.apart.flow asked)
+
 -- what a refusal of the catalogue leaves, where a node is failed
 pub refusal-stands : (old : Running) (choice : Choice) (records : Option Records) (got : Option (ℕ × List ℕ)) (why : KeepFault)
-    → IsShaped old → list_any (λ down. down) old.failed.items ≡ true → IsDamagedIfSaid {T = Unit {0}} old.flow choice records old.parts.keep.entries got (Err why)
+    → IsShaped old → list_any (λ down. down) old.failed.items ≡ true → IsChosenBy old Failed choice → ComesOfReading {T = Unit {0}} old.flow choice records old.parts.keep.entries got (Err why)
     → TakesStep old records Recover (Err (fault_of why)) old records
-refusal-stands old choice records got keep.StoreFault shaped some d sys state s = (recovery-enabled old records shaped some sys state s.apart, s)
-refusal-stands old choice records got (keep.Damaged id bytes) shaped some d sys state s =
+refusal-stands old choice records got keep.StoreFault shaped some chosen d sys state s = (
+  record {
+    enabled = recovery-enabled old records shaped some sys state s.apart;
+    entries = old.parts.keep.entries;
+    of_writes = s.apart.entries;
+    entry = d.entry;
+    there = d.there;
+    asked = asked-in old choice old.parts.keep.entries d.entry chosen d.asked sys records state s;
+  },
+  s,
+)
+refusal-stands old choice records got (keep.Damaged id bytes) shaped some chosen d sys state s =
     (damaged-untold old choice records got id bytes.items sys state s.apart d, recovery-enabled old records shaped some sys state s.apart, s)
-refusal-stands old choice records got keep.NoMemory shaped some d sys state s = tt
+refusal-stands old choice records got keep.NoMemory shaped some chosen d sys state s = tt
 
 -- and where the engine holds what is left of a state
 refusal-held : (old : Running) (choice : Choice) (records : Option Records) (got : Option (ℕ × List ℕ)) (why : KeepFault)
-    → IsShaped old → list_any (λ down. down) old.failed.items ≡ true → IsDamagedIfSaid {T = Unit {0}} old.flow choice records old.parts.keep.entries got (Err why)
+    → IsShaped old → list_any (λ down. down) old.failed.items ≡ true → ComesOfReading {T = Unit {0}} old.flow choice records old.parts.keep.entries got (Err why)
     → RecoversHeld old records (Err (fault_of why)) old records
 refusal-held old choice records got keep.StoreFault shaped some d sys state s = (recovery-enabled old records shaped some sys state s.apart, s)
 refusal-held old choice records got (keep.Damaged id bytes) shaped some d sys state s =
@@ -166,16 +183,9 @@ refusal-shaped T old keep.StoreFault s = s
 refusal-shaped T old (keep.Damaged id bytes) s = s
 refusal-shaped T old keep.NoMemory s = tt
 
--- the largest choice asks for the entry
-asked-in : (old : Running) (choice : Choice) (entries : List Entry) (entry : Entry) → IsChosenBy old Failed choice
-    → is_asked_for old.flow choice entries entry ≡ true
-    → (sys : System) (records : Option Records) (state : Machine) → Stands sys old records state → IsAskedIn sys entries entry state
-asked-in old choice entries entry chosen asked sys records state s =
-    (choice, chosen sys records state s, subst (λ flow. is_asked_for flow choice entries entry ≡ true) s.apart.flow asked)
-
 -- the damage that a recovery tells
 pub refusal-damage : (old : Running) (choice : Choice) (records : Option Records) (got : Option (ℕ × List ℕ)) (why : KeepFault) → IsChosenBy old Failed choice
-    → IsDamagedIfSaid {T = Unit {0}} old.flow choice records old.parts.keep.entries got (Err why) → (id : ℕ) → fault_of why ≡ fault.Damaged id → IsDamage old id got
+    → ComesOfReading {T = Unit {0}} old.flow choice records old.parts.keep.entries got (Err why) → (id : ℕ) → fault_of why ≡ fault.Damaged id → IsDamage old id got
 refusal-damage old choice records got keep.StoreFault chosen d id e = absurd (cc e)
 refusal-damage old choice records got (keep.Damaged at bytes) chosen d id e =
     let same : at ≡ id = cc in
@@ -195,17 +205,17 @@ refusal-damage old choice records got keep.NoMemory chosen d id e = absurd (cc e
 
 -- what is kept where the parts were not restored
 pub refused-stands : (old : Running) (parts : Parts) (choice : Choice) (records : Option Records) (got : Option (ℕ × List ℕ)) (why : KeepFault)
-    (r : Result Stepped EngineFault) → IsShaped old → list_any (λ down. down) old.failed.items ≡ true → parts ≡ old.parts → IsErrAnd r (λ e. e ≡ fault_of why)
-    → IsDamagedIfSaid {T = Unit {0}} old.flow choice records old.parts.keep.entries got (Err why)
+    (r : Result Stepped EngineFault) → IsShaped old → list_any (λ down. down) old.failed.items ≡ true → IsChosenBy old Failed choice → parts ≡ old.parts → IsErrAnd r (λ e. e ≡ fault_of why)
+    → ComesOfReading {T = Unit {0}} old.flow choice records old.parts.keep.entries got (Err why)
     → TakesStep old records Recover r (record old { parts = parts }) records
-refused-stands old parts choice records got why (Ok x) shaped some same is d = absurd is
-refused-stands old parts choice records got why (Err e) shaped some same is d =
+refused-stands old parts choice records got why (Ok x) shaped some chosen same is d = absurd is
+refused-stands old parts choice records got why (Err e) shaped some chosen same is d =
     subst (λ x. TakesStep old records Recover (Err e) (record old { parts = x }) records) (sym same)
-    (subst (λ x. TakesStep old records Recover (Err x) old records) (sym is) (refusal-stands old choice records got why shaped some d))
+    (subst (λ x. TakesStep old records Recover (Err x) old records) (sym is) (refusal-stands old choice records got why shaped some chosen d))
 
 pub refused-held : (old : Running) (parts : Parts) (choice : Choice) (records : Option Records) (got : Option (ℕ × List ℕ)) (why : KeepFault)
     (r : Result Stepped EngineFault) → IsShaped old → list_any (λ down. down) old.failed.items ≡ true → parts ≡ old.parts → IsErrAnd r (λ e. e ≡ fault_of why)
-    → IsDamagedIfSaid {T = Unit {0}} old.flow choice records old.parts.keep.entries got (Err why)
+    → ComesOfReading {T = Unit {0}} old.flow choice records old.parts.keep.entries got (Err why)
     → RecoversHeld old records r (record old { parts = parts }) records
 refused-held old parts choice records got why (Ok x) shaped some same is d = absurd is
 refused-held old parts choice records got why (Err e) shaped some same is d =
@@ -219,7 +229,7 @@ unanswered-held old new before after (Err e) is = subst (λ x. RecoversHeld old 
 
 -- the damage that is told then
 pub refused-damage : (old : Running) (choice : Choice) (records : Option Records) (got : Option (ℕ × List ℕ)) (why : KeepFault) (r : Result Stepped EngineFault)
-    → IsChosenBy old Failed choice → IsErrAnd r (λ e. e ≡ fault_of why) → IsDamagedIfSaid {T = Unit {0}} old.flow choice records old.parts.keep.entries got (Err why)
+    → IsChosenBy old Failed choice → IsErrAnd r (λ e. e ≡ fault_of why) → ComesOfReading {T = Unit {0}} old.flow choice records old.parts.keep.entries got (Err why)
     → (id : ℕ) → r ≡ Err (fault.Damaged id) → IsDamage old id got
 refused-damage old choice records got why (Ok x) chosen is d id e = absurd is
 refused-damage old choice records got why (Err y) chosen is d id e =

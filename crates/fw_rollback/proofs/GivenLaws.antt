@@ -36,7 +36,7 @@ use Rattle.fw_keep.proofs.IdLaws.{among-self}
 use Rattle.fw_record.specs.Event.{stamp_of_event}
 use Rattle.fw_keep.specs.Entry.{IsRecordAs, IsRecordOn}
 use Rattle.fw_keep.specs.Stored.{Records, Fetches, IsToldUnder, IsFetched}
-use Rattle.fw_rollback.specs.Asked.{read_from, is_needed, is_asked_at, is_asked_for, asked_of, given_of, AreFetched, IsDamagedIfSaid, CanServe, CanServeEach}
+use Rattle.fw_rollback.specs.Asked.{read_from, is_needed, is_asked_at, is_asked_for, asked_of, given_of, AreFetched, ComesOfReading, CanServe, CanServeEach}
 use Rattle.fw_rollback.proofs.ListLaws.{zip-push, zip-each}
 
 -- ---- one entry more
@@ -134,11 +134,11 @@ fetched-told flow choice before after all some given stay h = record {
 pub of-both : {A B : Type 0} (P : A → B → Type 0) {a x : A} {b y : B} → a ≡ x → b ≡ y → P x y → P a b
 of-both P {a} {x} {b} {y} e f p = subst (λ c. P c b) (sym e) (subst (λ d. P x d) (sym f) p)
 
--- a damaged record is one that the choice asks for
-pub damaged : (T : Type 0) (flow : Dataflow) (choice : Choice) (records : Option Records) (entries : List Entry) (e : Entry) (given : Option (ℕ × List ℕ)) (why : KeepFault)
+-- the record of whose reading a fault comes is one that the choice asks for
+pub of_reading : (T : Type 0) (flow : Dataflow) (choice : Choice) (records : Option Records) (entries : List Entry) (e : Entry) (given : Option (ℕ × List ℕ)) (why : KeepFault)
     → Contains entries e → is_asked_for flow choice entries e ≡ true → Fetches flow e given (Err why) → IsToldUnder e.id records (Err why)
-    → IsDamagedIfSaid {T = T} flow choice records entries given (Err why)
-damaged T flow choice records entries e given (fault.Damaged id bytes) there asked f t = record {
+    → ComesOfReading {T = T} flow choice records entries given (Err why)
+of_reading T flow choice records entries e given (fault.Damaged id bytes) there asked f t = record {
   entry = e;
   there = there;
   asked = asked;
@@ -147,8 +147,8 @@ damaged T flow choice records entries e given (fault.Damaged id bytes) there ask
   told = let P : ℕ → Type 0 = λ n. ForSome records (λ held. map.get held n ≡ Some bytes.items) in subst P (sym f.0) t;
   none = f.2;
 }
-damaged T flow choice records entries e given fault.StoreFault there asked f t = tt
-damaged T flow choice records entries e given fault.NoMemory there asked f t = tt
+of_reading T flow choice records entries e given fault.StoreFault there asked f t = record { entry = e; there = there; asked = asked }
+of_reading T flow choice records entries e given fault.NoMemory there asked f t = tt
 
 -- ---- what the records serve
 

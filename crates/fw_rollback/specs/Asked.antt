@@ -114,12 +114,18 @@ pub record IsEntryDamaged (flow : Dataflow) (choice : Choice) (records : Option 
   pub told : ForSome records (λ held. map.get held id ≡ Some bytes)
   pub none : SpellsNone flow entry bytes
 
--- where the answer is that a record is damaged, it is one that the choice asks for
-abbrev pub IsDamagedIfSaid : {T : Type 0} → Dataflow → Choice → Option Records → List Entry → Option (ℕ × List ℕ) → Result T KeepFault → Type 0
-IsDamagedIfSaid flow choice records entries given (Ok x) = Unit {0}
-IsDamagedIfSaid flow choice records entries given (Err (fault.Damaged id bytes)) = IsEntryDamaged flow choice records entries given id bytes.items
-IsDamagedIfSaid flow choice records entries given (Err fault.StoreFault) = Unit {0}
-IsDamagedIfSaid flow choice records entries given (Err fault.NoMemory) = Unit {0}
+-- some entry is one that the choice asks for
+pub record AsksForSome (flow : Dataflow) (choice : Choice) (entries : List Entry) : Type 0 where
+  pub entry : Entry
+  pub there : Contains entries entry
+  pub asked : is_asked_for flow choice entries entry ≡ true
+
+-- Where the store failed, the choice asks for some entry; where the answer is that a record is damaged, it is one that the choice asks for.
+abbrev pub ComesOfReading : {T : Type 0} → Dataflow → Choice → Option Records → List Entry → Option (ℕ × List ℕ) → Result T KeepFault → Type 0
+ComesOfReading flow choice records entries given (Ok x) = Unit {0}
+ComesOfReading flow choice records entries given (Err (fault.Damaged id bytes)) = IsEntryDamaged flow choice records entries given id bytes.items
+ComesOfReading flow choice records entries given (Err fault.StoreFault) = AsksForSome flow choice entries
+ComesOfReading flow choice records entries given (Err fault.NoMemory) = Unit {0}
 
 -- ---- what records hold
 

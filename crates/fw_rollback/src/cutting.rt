@@ -3,7 +3,7 @@ ghost use Rattle.std.specs.Prelude.{◌≡◌, OnOk, OnErr};
 ghost use Rattle.fw_keep.specs.Faults.{keep_faults_after};
 ghost use Rattle.fw_keep.specs.Stored.{IsStored};
 ghost use Rattle.fw_outside.specs.Outside.{StayIfTold};
-ghost use Rattle.fw_rollback.specs.Asked.{IsDamagedIfSaid};
+ghost use Rattle.fw_rollback.specs.Asked.{ComesOfReading};
 ghost use Rattle.fw_rollback.specs.Restored.{AreOfFlow, AreOfNodes, Restores};
 
 use crate::Parts;
@@ -50,7 +50,7 @@ pub fn restore<K: Store>(
 
     // After a refusal the parts are as they were.
     ensures kept { OnErr result (parts.new ≡ parts.old) }
-    ensures damaged { IsDamagedIfSaid flow.now choice.now (K.view store.new).records parts.old.keep.entries (K.view store.new).given result }
+    ensures of_reading { ComesOfReading flow.now choice.now (K.view store.new).records parts.old.keep.entries (K.view store.new).given result }
     ensures faults { (K.view store.new).faults ≡ keep_faults_after result (K.view store.old).faults }
 {
     let given = read(alloc, flow, choice, &parts.keep, store)?;

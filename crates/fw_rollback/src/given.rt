@@ -3,7 +3,7 @@ ghost use Rattle.std.specs.Prelude.{◌≡◌, ◌++◌, ◌∷◌, [], length, 
 ghost use Rattle.fw_keep.specs.Faults.{keep_faults_after};
 ghost use Rattle.fw_keep.specs.Stored.{IsStored};
 ghost use Rattle.fw_outside.specs.Outside.{StayIfTold};
-ghost use Rattle.fw_rollback.specs.Asked.{given_of, AreFetched, AreFound, IsDamagedIfSaid};
+ghost use Rattle.fw_rollback.specs.Asked.{given_of, AreFetched, AreFound, ComesOfReading};
 
 use crate::asked::{Found, is_asked_for};
 use fw_flow::{Choice, Flow, NodeId};
@@ -112,7 +112,7 @@ pub(crate) fn read<K: Store>(
 ) -> Result<Given, KeepFault>
     requires stored { IsStored keep.now (K.view store.old).records }
     ensures fetched { IfOk result (AreFetched flow.now choice.now (K.view store.new).records keep.now.entries) }
-    ensures damaged { IsDamagedIfSaid flow.now choice.now (K.view store.new).records keep.now.entries (K.view store.new).given result }
+    ensures of_reading { ComesOfReading flow.now choice.now (K.view store.new).records keep.now.entries (K.view store.new).given result }
     ensures stays { StayIfTold (K.view store.old).records (K.view store.new).records }
     ensures faults { (K.view store.new).faults ≡ keep_faults_after result (K.view store.old).faults }
 {
@@ -135,7 +135,7 @@ fn fetch_all<K: Store>(
     requires stored { IsStored keep.now (K.view store.old).records }
     requires none { given.old ≡ replicate (length flow.now.nodes) [] }
     ensures fetched { OnOk result (AreFetched flow.now choice.now (K.view store.new).records keep.now.entries given.new) }
-    ensures damaged { IsDamagedIfSaid flow.now choice.now (K.view store.new).records keep.now.entries (K.view store.new).given result }
+    ensures of_reading { ComesOfReading flow.now choice.now (K.view store.new).records keep.now.entries (K.view store.new).given result }
     ensures stays { StayIfTold (K.view store.old).records (K.view store.new).records }
     ensures faults { (K.view store.new).faults ≡ keep_faults_after result (K.view store.old).faults }
 {

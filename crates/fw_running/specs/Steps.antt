@@ -19,6 +19,7 @@ use Rattle.fw_model.specs.Steps.{Effect, silent, acked, cuts, lows, Outcome, did
 use Rattle.fw_keep.specs.declared.entry.Entry.{Entry}
 use Rattle.fw_keep.specs.Stored.{Records, IsStored, SpellsNone}
 use Rattle.fw_rollback.specs.Asked.{is_asked_for}
+use Rattle.fw_stands.specs.Written.{AreEntriesOf, uncollected}
 use Rattle.fw_running.specs.declared.fault.EngineFault.{EngineFault}
 use Rattle.fw_running.specs.declared.fault.EngineFault.TheVariants as fault
 use Rattle.fw_running.specs.declared.running.Running.{Running}
@@ -100,9 +101,24 @@ HasOutcome sys state step outcome = (next : Machine) × StepsTo sys state step n
 abbrev pub AsksAWrite : System → Machine → Step → Type 0
 AsksAWrite sys state step = (next : Machine) × (effect : Effect) × LeadsTo sys state step next effect × (length state.writes < length next.writes)
 
--- the step needs the store in the state: it is a recovery that is enabled, which reads, or it asks for a write
+-- the largest choice of a recovery from the state asks for the record of the entry, which is one of these
+abbrev pub IsAskedIn : System → List Entry → Entry → Machine → Type 0
+IsAskedIn sys entries entry state =
+    (choice : Choice) × IsLargest sys state (offers sys state) choice × (is_asked_for sys.flow choice entries entry ≡ true)
+
+-- A recovery is enabled in the state, and reads: its largest choice asks for the record of one of these entries, which are those of the writes
+-- of the state that were not collected.
+pub record ReadsRecord (sys : System) (state : Machine) : Type 0 where
+  pub enabled : IsStepEnabled sys state Recover
+  pub entries : List Entry
+  pub of_writes : AreEntriesOf sys state entries (uncollected state)
+  pub entry : Entry
+  pub there : Contains entries entry
+  pub asked : IsAskedIn sys entries entry state
+
+-- the step needs the store in the state: it is a recovery that reads, or it asks for a write
 abbrev pub NeedsStore : System → Machine → Step → Type 0
-NeedsStore sys state Recover = IsStepEnabled sys state Recover
+NeedsStore sys state Recover = ReadsRecord sys state
 NeedsStore sys state step = AsksAWrite sys state step
 
 -- What a fault of the store leaves: the state, in which the step needs the store, but that after a collection, which sweeps last, also
@@ -168,11 +184,6 @@ IsUndamaged (Ok x) = Unit {0}
 IsUndamaged (Err fault.StoreFault) = Unit {0}
 IsUndamaged (Err (fault.Damaged id)) = ⊥
 IsUndamaged (Err fault.NoMemory) = Unit {0}
-
--- the largest choice of a recovery from the state asks for the record of the entry, which is one of these
-abbrev pub IsAskedIn : System → List Entry → Entry → Machine → Type 0
-IsAskedIn sys entries entry state =
-    (choice : Choice) × IsLargest sys state (offers sys state) choice × (is_asked_for sys.flow choice entries entry ≡ true)
 
 -- The store gave under the id bytes that spell no record of the entry, for which the largest choice asks in each state for which what is
 -- kept stands.

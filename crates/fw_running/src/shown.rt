@@ -5,7 +5,7 @@ ghost use Rattle.fw_running.specs.EffectText.{recs_text, ack_line, cut_line, cut
 
 use crate::Effect;
 use fw_bag::Bag;
-use fw_flow::{Cut, Flow, Kind, Name, NodeId};
+use fw_flow::{Cut, Flow, FullName, Kind, NodeId};
 use fw_time::Stamp;
 use std::fmt;
 use std::marker::Model;
@@ -149,7 +149,7 @@ impl<'a> fmt::Display for CutLines<'a> {
 // The line of a node's cut; a node for which no cut stands keeps its state.
 #[derive(Drop)]
 struct CutLine<'a> {
-    name: &'a Name,
+    name: &'a FullName,
     cut: Option<&'a Cut>,
 }
 
@@ -193,7 +193,7 @@ impl<'a> fmt::Display for LowLines<'a> {
 // The line of a node's low watermark; that of a node which keeps its state, or for which no cut stands, is all.
 #[derive(Drop)]
 struct LowLine<'a> {
-    name: &'a Name,
+    name: &'a FullName,
     cut: Option<&'a Cut>,
 }
 

@@ -46,8 +46,8 @@ returns-in_err-restore-clause-answers g c =
     recovery-fails (fault_of f) is
     (subst (λ (parts : Parts). IsShaped (record old { parts = parts })) (sym restored.kept) c.requires.shaped) restored.stored refl
     (told-takes old (record old { parts = c.restore.new.parts }) before.records after.records steps.Recover result c.restore.ensures.stays
-    (refused-stands old c.restore.new.parts choice after.records after.given f result c.requires.shaped some restored.kept is restored.damaged))
-    (restored.faults ∙ fault-counts (Unit {0}) Stepped f before.faults) (refused-damage old choice after.records after.given f result c.in_ok-choice.ensures.of_state is restored.damaged)
+    (refused-stands old c.restore.new.parts choice after.records after.given f result c.requires.shaped some c.in_ok-choice.ensures.of_state restored.kept is restored.of_reading))
+    (restored.faults ∙ fault-counts (Unit {0}) Stepped f before.faults) (refused-damage old choice after.records after.given f result c.in_ok-choice.ensures.of_state is restored.of_reading)
     (told-before before.records after.records c.restore.ensures.stays)
 
 pub returns-in_err-restore-clause-held : goal.returns-in_err-restore-clause-held
@@ -62,7 +62,7 @@ returns-in_err-restore-clause-held g c =
     let restored = c.in_err-restore.ensures in
     let some = some-down old.failed.items c.any_of.result (c.any_of.ensures ∙ ap (list_any (λ down. down)) c.deref.ensures.value) c.if-not-any_of.false in
     told-recovers old (record old { parts = c.restore.new.parts }) before.records after.records result c.restore.ensures.stays
-    (refused-held old c.restore.new.parts choice after.records after.given f result c.requires.shaped some restored.kept is restored.damaged)
+    (refused-held old c.restore.new.parts choice after.records after.given f result c.requires.shaped some restored.kept is restored.of_reading)
 
 pub returns-in_err-follow-clause-answers : goal.returns-in_err-follow-clause-answers
 returns-in_err-follow-clause-answers g c =

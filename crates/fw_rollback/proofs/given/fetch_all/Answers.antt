@@ -8,8 +8,8 @@ use Rattle.fw_keep.specs.Stored.{Records, IsStored}
 use Rattle.fw_outside.specs.Outside.{StayIfTold}
 use Rattle.fw_outside.proofs.ToldLaws.{told-on}
 use Rattle.fw_keep.proofs.StoredLaws.{stored-told}
-use Rattle.fw_rollback.specs.Asked.{IsDamagedIfSaid}
-use Rattle.fw_rollback.proofs.GivenLaws.{HasFetched, fetched-more, fetched-same, fetched-one, fetched-told, of-both, damaged, entry-there, entry-among}
+use Rattle.fw_rollback.specs.Asked.{ComesOfReading}
+use Rattle.fw_rollback.proofs.GivenLaws.{HasFetched, fetched-more, fetched-same, fetched-one, fetched-told, of-both, of_reading, entry-there, entry-among}
 use Rattle.fw_rollback.proofs.given.fetch_all.Goals as goal
 use Rattle.fw_rollback.proofs.given.fetch_all.Goals.{then-is_asked_for+in_ok-fetch_one+in_ok-add, else-is_asked_for}
 
@@ -18,16 +18,16 @@ fetch_one-requires-clause-there g c =
     subst (λ (es : List Entry). has_entry c.entry-item.result.id es ≡ true) c.entries-entries.ensures.all
     (entry-there c.entries-entries.result.now c.loop-entry.entry-index c.entry-item.result c.loop-entry-test.true c.entry-item.is)
 
-pub returns-in_err-fetch_one-clause-damaged : goal.returns-in_err-fetch_one-clause-damaged
-returns-in_err-fetch_one-clause-damaged g c =
+pub returns-in_err-fetch_one-clause-of_reading : goal.returns-in_err-fetch_one-clause-of_reading
+returns-in_err-fetch_one-clause-of_reading g c =
     let entries = c.args.keep.now.entries in
     let left = g.K.Store.view c.fetch_one.new.store in
     let e : Entry = c.entry-item.result in
     let why : KeepFault = c.in_err-fetch_one.field-0.0 in
     let there = entry-among c.entries-entries.result.now entries c.loop-entry.entry-index e c.entries-entries.ensures.all c.loop-entry-test.true c.entry-item.is in
     let p = err_from_is_err_and c.from_residual.result c.from_residual.ensures.1 in
-    let here : IsDamagedIfSaid {T = Unit {0}} c.args.flow.now c.args.choice.now left.records entries left.given (Err why) =
-    damaged (Unit {0}) c.args.flow.now c.args.choice.now left.records entries e left.given why there
+    let here : ComesOfReading {T = Unit {0}} c.args.flow.now c.args.choice.now left.records entries left.given (Err why) =
+    of_reading (Unit {0}) c.args.flow.now c.args.choice.now left.records entries e left.given why there
     (sym (c.is_asked_for.ensures entries c.requires.found) ∙ c.if-is_asked_for.true)
     (c.in_err-fetch_one.ensures.fetched e there refl) c.in_err-fetch_one.ensures.told in
     rw (p.1, p.2) here

@@ -2,3 +2,14 @@ pub mod KeyLaws
 pub mod SumsByKeyLaws
 pub mod PartLaws
 pub mod ExpansionLaws
+pub mod LoopsLaws
+pub mod ExactWalks
+pub mod ExactLaws
+pub mod PlaceLaws
+pub mod MadeLaws
+pub mod InEdgeLaws
+pub mod DeclaredLaws
+pub mod ExpandedLaws
+pub mod ExpandsLaws
+pub mod InTurnLaws
+pub mod SplitTotalLaws

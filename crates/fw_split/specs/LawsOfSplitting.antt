@@ -3,13 +3,21 @@ use Rattle.std.specs.Prelude.{◌≡◌, ◌⊎◌, ℕ, ◌<◌, true, false, L
 use Rattle.std.specs.List.{AllByRecursion, flat_map}
 use Rattle.fw_bag.specs.declared.rec.Rec.{Rec}
 use Rattle.fw_flow.specs.declared.key_part.KeyPart.{KeyPart}
+use Rattle.fw_flow.specs.Builder.{has_names}
+use Rattle.fw_flow.specs.Check.{IsChecked}
+use Rattle.fw_flow.specs.Declaring.{Declared}
+use Rattle.fw_flow.specs.Expand.{expand}
 use Rattle.fw_flow.specs.Kind.{Kind}
 use Rattle.fw_flow.specs.Dataflow.{System, Dataflow, kind_of, in_edges}
 use Rattle.fw_flow.specs.KeyParts.{may_split}
+use Rattle.fw_flow.specs.PlainNames.{HasNoPart}
+use Rattle.fw_flow.specs.Raw.{flow_of_declarations}
 use Rattle.fw_flow.specs.WellFormed.{IsWellFormed}
 use Rattle.fw_flow.specs.WholeBags.{Timed, in_order, outputs_of_kind}
 use Rattle.fw_model.specs.Denotation.{Family, IsDenotation}
+use Rattle.fw_split.specs.Exact.{IsExactExpansion}
 use Rattle.fw_split.specs.Expansion.{EdgeOrigin, NodeOrigin, IsExpansion, parts_to, timed_of_part, bag_of_origin}
+use Rattle.fw_split.specs.Unsplit.{AreNewInTurn, AreAsWritten, HaveSameBatches, unsplit}
 
 -- A node of a kind that may be split, to which of each bag a part comes, sends this part of what it sends where all comes.
 abbrev pub ReplicasSendTheirParts : Type 0
@@ -49,3 +57,20 @@ abbrev pub EdgesCarryTheSame : Type 0
 EdgesCarryTheSame = (small large : System) (of_node : ℕ → NodeOrigin) (of_edge : ℕ → EdgeOrigin) → IsExpansion small large of_node of_edge
     → IsWellFormed large.flow → (family expanded : Family) → IsDenotation small family → IsDenotation large expanded
     → (d : ℕ) → d < length small.flow.edges → IsCarriedAgain large.flow expanded (family d)
+
+-- Where the dataflow of an exact expansion is well formed, that of the flow without the word is.
+abbrev pub WithoutTheWordIsWellFormed : Type 0
+WithoutTheWordIsWellFormed = (small large : System) (of_node : ℕ → NodeOrigin) (of_edge : ℕ → EdgeOrigin)
+    → IsExactExpansion small large of_node of_edge → IsWellFormed large.flow → IsWellFormed small.flow
+
+-- Declarations whose names are names, each new in its turn, and none of which is a replica, are as texts write them.
+abbrev pub NewNamesAreWritten : Type 0
+NewNamesAreWritten = (raw : List Declared) → AllByRecursion (λ d. has_names d.declaration ≡ true) raw
+    → AllByRecursion (λ d. HasNoPart d.declaration) raw → AreNewInTurn raw → AreAsWritten raw
+
+-- The dataflow of what declarations expand to is an exact expansion of their dataflow without the word, where the declarations are as
+-- texts write them, their expansion is well formed, and nodes of the same name have the same batches.
+abbrev pub DeclarationsExpand : Type 0
+DeclarationsExpand = (raw : List Declared) (small large : System) → AreAsWritten raw → small.flow ≡ flow_of_declarations (unsplit raw)
+    → IsChecked (expand raw) large.flow → HaveSameBatches small large
+    → (of_node : ℕ → NodeOrigin) × (of_edge : ℕ → EdgeOrigin) × IsExactExpansion small large of_node of_edge

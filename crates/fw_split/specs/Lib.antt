@@ -1,2 +1,5 @@
+pub mod Exact
 pub mod Expansion
 pub mod LawsOfSplitting
+pub mod SplitTotal
+pub mod Unsplit

@@ -59,7 +59,7 @@ pub record RunAnswers {F K O : Type 0} (known : Known F K O) (call : Call) (befo
   -- wrote until then, and behind a collection no others. That is known as at 0, up to the item in which the output failed.
   pub last_taken : status ≡ WriteFault → StopsAtOutput (TellsRecords known after) call (known.store before.store).faults
       (known.store after.store).faults (known.store after.store).records (known.out before.out) (known.out after.out)
-  -- 8: the store failed, in a step that may call it. A run ends there: the step asks for a write, or is a recovery that is enabled or a
+  -- 8: the store failed, in a step that may call it. A run ends there: the step asks for a write, or is a recovery that reads a record or a
   -- collection (which sweeps where it is idle too), the lines of the steps before were written (of generated texts nothing), and the store
   -- holds the records of what this step leaves. `endure` goes on to its end: all was written, with a line for each step in which the store
   -- failed, and the store holds the records of what its nodes wrote, and behind a collection no others. That is known where the store tells its records, or no recovery before that step

@@ -29,8 +29,8 @@ start_of at_first sys = record { state = first_state sys; counts = tally_of [] }
 -- ---- steps
 
 -- The step leads from a state to the next one, with this report; these are the steps that the machine takes. The store fails only in
--- a step that may call it, and that asks for a write or is a recovery that is enabled; in a collection, which sweeps last, also where that
--- is idle.
+-- a step that may call it, and that asks for a write or is a recovery that reads a record; in a collection, which sweeps last, also where
+-- that is idle.
 abbrev pub Endures : Showing → System → Machine → Step → List Step → Report → Machine → Type 0
 Endures showing sys state step steps (came outcome lines) next =
     StepsTo sys state step next outcome × AreLinesOf showing sys state outcome lines × (steps ≡ step ∷ [])

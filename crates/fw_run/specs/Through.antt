@@ -82,8 +82,8 @@ pub record StopsIn (course : Course) (sys : System) (from : Point) (items : List
   pub so : IsSo state
 
 -- The run was stopped by its store in this one of the items: in a step that may call it. If it is known what comes of the items before, the
--- step asks for a write, or is a recovery that is enabled or a collection; these are the lines of the steps before, and the store holds the
--- writes of what this step leaves. If that is known of first items alone, their lines come first. Of these lines this is true.
+-- step asks for a write, or is a recovery that reads a record or a collection; these are the lines of the steps before, and the store holds
+-- the writes of what this step leaves. If that is known of first items alone, their lines come first. Of these lines this is true.
 pub record IsStoppedByStore (course : Course) (Tells : Type 0) (sys : System) (from : Point) (items : List Item) (records : Option Records)
     (IsPut : List ℕ → Type 0) : Type 0 where
   pub printed : List ℕ

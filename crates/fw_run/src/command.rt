@@ -10,6 +10,7 @@ ghost use Rattle.fw_run.specs.HeldTexts.{MayBegin};
 ghost use Rattle.fw_run.specs.Status.{IsTold, IsTellingOf};
 ghost use Rattle.fw_generate.specs.Laws.{AreAccepted};
 ghost use Rattle.fw_generate.specs.Texts.{Texts};
+ghost use Rattle.fw_unsplit.specs.WithoutTheWord.{AcceptedWithoutTheWord};
 ghost use Rattle.fw_command.specs.Command.{TextNames};
 ghost use Rattle.fw_command.specs.Texts.{spelled_system};
 ghost use Rattle.fw_command.specs.Words.{held_of, words_in};
@@ -58,6 +59,8 @@ pub fn falkirk<F: Folder, K: Store, O: Sink, N: Sink>(
     ensures never_fall { NeverFall (N.view notes.old) (N.view notes.new) }
     // What the machine does with accepted texts of a run.
     ensures headline { (texts : Texts) (flow : Dataflow) (items : List Item) → AreAccepted texts flow → Headline (spelled_system flow texts) items }
+    // Where a node of an accepted flow is split, the flow is accepted without that word too, and denotes what is acknowledged.
+    ensures without_the_word { AcceptedWithoutTheWord }
 {
     let status = run_or_hold(alloc, words, folder, store, out);
     tell(alloc, status, notes)

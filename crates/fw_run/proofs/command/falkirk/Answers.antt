@@ -3,6 +3,7 @@ use Rattle.fw_run.proofs.CountLaws.{never_fall-notes}
 use Rattle.fw_run.proofs.HeadlineLaws.{texts-headline}
 use Rattle.fw_run.proofs.HeldLaws.{held-told}
 use Rattle.fw_run.specs.Answers.{known_by, outside_of}
+use Rattle.fw_unsplit.proofs.SameLaws.{accepted-plain}
 use Rattle.fw_run.specs.Call.{call_of}
 use Rattle.fw_run.proofs.command.falkirk.Goals as goal
 
@@ -20,6 +21,9 @@ returns-clause-held g c names is =
 
 pub returns-clause-headline : goal.returns-clause-headline
 returns-clause-headline g c = texts-headline
+
+pub returns-clause-without_the_word : goal.returns-clause-without_the_word
+returns-clause-without_the_word g c = accepted-plain
 
 pub returns-clause-never_fall : goal.returns-clause-never_fall
 returns-clause-never_fall g c = never_fall-notes _ (g.N.Sink.view c.args.notes.now) (g.N.Sink.view c.tell.new.notes) c.tell.ensures.notes.told

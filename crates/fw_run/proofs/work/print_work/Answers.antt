@@ -1,4 +1,5 @@
 use Rattle.std.proofs.Common.{refl}
+use Rattle.fw_command.specs.Listing.{check_text}
 use Rattle.fw_run.proofs.work.print_work.Goals as goal
 
 pub returns-in-Run-clause-ends : goal.returns-in-Run-clause-ends
@@ -30,6 +31,34 @@ pub returns-in-Denote-clause-ends : goal.returns-in-Denote-clause-ends
 returns-in-Denote-clause-ends g c = rw c.in-Denote.is (record {
   printed = tt;
   cut_off = c.in-Err.ensures;
+  left = tt;
+  last_taken = λ e. tt;
+  store_fault = λ e. absurd (cc);
+  damaged = λ id e. absurd (cc);
+  none = tt;
+  first = refl;
+  some = λ e. absurd (cc);
+  rises = (0, refl);
+})
+
+pub returns-in-Ok-list-clause-ends : goal.returns-in-Ok-list-clause-ends
+returns-in-Ok-list-clause-ends g c = rw c.in-Check.is (record {
+  printed = record { printed = check_text c.in-Check.flow; text = refl; written = c.in-Ok-list.ensures };
+  cut_off = tt;
+  left = tt;
+  last_taken = λ e. absurd (cc);
+  store_fault = λ e. absurd (cc);
+  damaged = λ id e. absurd (cc);
+  none = refl;
+  first = refl;
+  some = λ e. absurd (cc);
+  rises = (0, refl);
+})
+
+pub returns-clause-ends : goal.returns-clause-ends
+returns-clause-ends g c = rw c.in-Check.is (record {
+  printed = tt;
+  cut_off = record { printed = check_text c.in-Check.flow; text = refl; written = c.in-Err-list.ensures };
   left = tt;
   last_taken = λ e. tt;
   store_fault = λ e. absurd (cc);

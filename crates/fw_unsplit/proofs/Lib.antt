@@ -1,0 +1,4 @@
+pub mod SourceLaws
+pub mod InputLaws
+pub mod WrittenLaws
+pub mod SameLaws

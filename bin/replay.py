@@ -22,6 +22,7 @@ class Node:
     words: list  # those behind the kind, without the loop and the policy
     loop: str | None
     policy: str
+    part: tuple | None  # of a replica: the remainder of the keys that come to it, and by which number
     ins: list = field(default_factory=list)
     outs: list = field(default_factory=list)
 
@@ -91,16 +92,40 @@ def front_of(words):
     return None if words == ["present"] else tuple(tuple(map(int, it.split("."))) for it in words if it not in ("all", "until"))
 
 
+def replicas_of(lines):
+    """How many replicas each split node of a flow has."""
+    return {words[1]: int(words[-3]) for _, words in lines if words[0] == "node" and len(words) > 6 and words[-4] == "split"}
+
+
+def expanded(lines):
+    """The lines of a flow with each split node spelled out as its replicas, the node that joins them and the edges between."""
+    replicas, out = replicas_of(lines), []
+    for number, words in lines:
+        count = replicas.get(words[1 if words[0] == "node" else -1], 0) if words[0] in ("node", "edge") else 0
+        if not count:
+            out.append((number, words))
+        elif words[0] == "edge":
+            _, name, sender, receiver = words
+            out += [(number, ["edge", f"{name}.{i}", sender, f"{receiver}.{i}"]) for i in range(count)]
+        else:
+            name, loop = words[1], words[3:-4]
+            out += [(number, ["node", f"{name}.{i}", *words[2:-4], *words[-2:]]) for i in range(count)]
+            out.append((number, ["node", name, "concat", *loop, "policy", "none"]))
+            out += [(number, ["edge", f"{name}.out.{i}", f"{name}.{i}", name]) for i in range(count)]
+    return out
+
+
 class Flow:
-    """The declarations of a flow that was accepted."""
+    """The declarations of a flow that was accepted, with each split node spelled out."""
 
     def __init__(self, lines):
         self.nodes, self.edges, self.most, self.parent = {}, {}, {}, {}
-        for _, words in lines:
+        parts = {f"{name}.{i}": (i, count) for name, count in replicas_of(lines).items() for i in range(count)}
+        for _, words in expanded(lines):
             if words[0] == "loop":
                 self.most[words[1]], self.parent[words[1]] = int(words[3]), words[5] if len(words) > 4 else None
             elif words[0] == "node":
-                self.nodes[words[1]] = self.node(*words[1:])
+                self.nodes[words[1]] = self.node(parts.get(words[1]), *words[1:])
             else:
                 self.edges[words[1]] = Edge(*words[1:])
         for edge in self.edges.values():
@@ -108,7 +133,7 @@ class Flow:
             self.nodes[edge.receiver].ins.append(edge.name)
 
     @staticmethod
-    def node(name, kind, *words):
+    def node(part, name, kind, *words):
         words, policy, loop = list(words), "none", None
         if words[-2:-1] == ["policy"]:
             policy, words = words[-1], words[:-2]
@@ -116,7 +141,12 @@ class Flow:
             loop, words = words[0], []
         elif words[-2:-1] == ["loop"]:
             loop, words = words[-1], words[:-2]
-        return Node(name, kind, words, loop, policy)
+        return Node(name, kind, words, loop, policy, part)
+
+    def carried(self, edge, messages):
+        """Those of the messages that the edge carries: of its part of the keys, where it leads to a replica."""
+        part = self.nodes[self.edges[edge].receiver].part
+        return messages if part is None else [it for it in messages if it[1] % part[1] == part[0]]
 
     def domain(self, node):
         """The loop in whose domain a node is, or None outside loops."""
@@ -154,7 +184,7 @@ class Replay:
         for name, node in self.flow.nodes.items():
             for event in self.events[name]:
                 for edge in node.outs:
-                    self.pending[edge].update(event.sent)
+                    self.pending[edge].update(self.flow.carried(edge, event.sent))
                 if event.edge:
                     self.pending[event.edge][event.message] -= 1
                     self.came[event.edge] += 1
@@ -298,7 +328,7 @@ class Replay:
         event.sent = self.sends(node, event)
         self.events[name].append(event)
         for edge in node.outs:
-            self.pending[edge].update(event.sent)
+            self.pending[edge].update(self.flow.carried(edge, event.sent))
         if event.edge:
             self.came[event.edge] += 1
             self.pending[event.edge] -= Counter([event.message])

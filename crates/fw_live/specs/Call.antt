@@ -193,7 +193,7 @@ pub record HasFlowSo (told : Option (List ℕ → Option (List ℕ))) (command :
 pub record LiveAnswers {K : Type 0} (view : K → StoreView) (told : Option (List ℕ → Option (List ℕ))) (command : Option LiveCommand)
     (given gives : Option (List LineIn)) (ended : Bool) (status : Status) (before after : SinkView) : Type 0 where
   -- 0, 8, 9: the lines that came in, up to their end, were answered, each once and in order; the answers and the line of what was
-  -- counted were written. 8: the store failed in some line. 9: a recovery read bytes that spell no record, first those under this id.
+  -- counted were written. 9: some line was answered `damaged`, first with this id. 8: some line was answered `fault`, and none so.
   pub whole : EndsWhole status
       → HasFlowSo told command (λ rests flow. AnswersAll view rests flow given gives status before after) × (ended ≡ true)
   -- 2: exactly where the words are no such command.

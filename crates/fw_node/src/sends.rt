@@ -8,7 +8,7 @@ use fw_numbered::Numbered;
 use fw_table::Sent;
 use fw_time::Stamp;
 
-/// What an event makes a node send, on each of its out-edges: recs at stamps, in order.
+/// What an event makes a node send, of which each out-edge carries some or all: recs at stamps, in order.
 #[derive(Debug, Drop)]
 pub enum Sends {
     /// Recs that are all at one stamp.

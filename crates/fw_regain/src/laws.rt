@@ -34,7 +34,7 @@ pub fn greatest_sent_stamps_stand_for_sent()
     ensures { GreatestSentStampsStandForSent }
 {}
 
-/// In a legal history the causes of what an input sent are the epochs that were injected and have a rec.
+/// In a legal history the causes of what an input sent on an edge are the epochs that were injected and have a rec that the edge carries.
 pub fn injected_batches_send()
     ensures { InjectedBatchesSend }
 {}

@@ -340,7 +340,7 @@ AreBoundsOf-push flow kept new next is of_next before p unless inside =
 -- the flow of a draft that breaks no rule is kept with its names and edges
 pub IsIndexed-from_draft : (draft : Draft) (raw : List Declared) (names : NameSpaces) → names ≡ names_of raw → IsDistinct bytes_eq names.loops → ArePlain raw → IsDraftOf draft raw
     → IsChecked raw (drafted draft) → (bounds : List Bounds) → bounds ≡ []
-    → IsIndexed (drafted draft) names.nodes names.edges draft.incoming.items draft.outgoing.items bounds
+    → IsIndexed (drafted draft) names.nodes names.edges draft.incoming.items draft.outgoing.items bounds false
 unfolding in_edges out_edges
 IsIndexed-from_draft draft raw names taken once plain of_draft checked bounds none =
     let named = names_of_flow raw in
@@ -355,4 +355,5 @@ IsIndexed-from_draft draft raw names taken once plain of_draft checked bounds no
       edges_in = of_draft.edges_in;
       edges_out = of_draft.edges_out;
       bounds_kept = AreBoundsOf-none (drafted draft) bounds none;
+      none_split = λ h. absurd (false≢true h);
     }

@@ -22,6 +22,7 @@ pub mod MessageLaws
 pub mod NameLaws
 pub mod NewLaws
 pub mod Named
+pub mod NoPartLaws
 pub mod Parents
 pub mod PickedEdges
 pub mod PlainNameLaws

@@ -1,8 +1,8 @@
 //! A well-formed dataflow, and what is looked up in it.
-ghost use Rattle.std.specs.Prelude.{◌≡◌, ◌<◌, length, map, MatchResult, IfOk};
+ghost use Rattle.std.specs.Prelude.{◌≡◌, ◌<◌, length, map, MatchResult, IfOk, true};
 ghost use Rattle.fw_lines.specs.Faults.{IfRefused};
 ghost use Rattle.fw_flow.specs.Dataflow.{kind_of, policy_of, sender, receiver, in_edges, out_edges, domain_of, bounds_of, greatest_of, max_of, node_at};
-ghost use Rattle.fw_flow.specs.Flow.{AreBoundsOf};
+ghost use Rattle.fw_flow.specs.Flow.{AreBoundsOf, HasNoParts};
 ghost use Rattle.fw_flow.specs.WellFormed.{IsWellFormed};
 ghost use Rattle.fw_flow.specs.DomainText.{name_of_edge};
 ghost use Rattle.fw_flow.specs.Names.{place_of};
@@ -34,6 +34,8 @@ pub struct Flow {
     pub(crate) outgoing: Vec<Vec<EdgeId>>,
     // The bounds of the domains of its nodes, in order, where they are kept.
     pub(crate) bounds: Vec<Bounds>,
+    // Whether it is known that no node is a replica.
+    pub(crate) unsplit: bool,
 }
 
 impl Model for Flow {
@@ -45,7 +47,7 @@ impl Model for Flow {
     ghost view = { λ flow. record { loops = flow.loops.items; nodes = flow.nodes.items; edges = flow.edges.items } };
 
     ghost invariant = { λ flow. IsIndexed (record { loops = flow.loops.items; nodes = flow.nodes.items; edges = flow.edges.items })
-        flow.node_names flow.edge_names flow.incoming.items flow.outgoing.items flow.bounds.items };
+        flow.node_names flow.edge_names flow.incoming.items flow.outgoing.items flow.bounds.items flow.unsplit };
 }
 
 // Written out, so that it is one call wherever a flow is let go.
@@ -60,6 +62,7 @@ impl Drop for Flow {
             incoming,
             outgoing,
             bounds,
+            unsplit: _,
         } = self;
         drop(loops);
         drop(nodes);
@@ -276,7 +279,10 @@ impl Flow {
         ensures well_formed { IfOk result IsWellFormed }
     {
         let mut flow = Flow::of(alloc, FullFlow::of(alloc, &raw)?)?;
-        flow.bounds = flow.each_bounds(alloc)?;
+        let bounds = flow.each_bounds(alloc)?;
+        let unsplit = flow.has_no_parts();
+        flow.bounds = bounds;
+        flow.unsplit = unsplit;
         Ok(flow)
     }
 
@@ -289,6 +295,19 @@ impl Flow {
             each.push(self.bounds_of(NodeId::at(place as u32)))?;
         }
         Ok(each)
+    }
+
+    // Whether no node is a replica, so that the recs of all keys come to each.
+    #[tactic(auto, using(crate::proofs::NoPartLaws::no_parts_more, crate::proofs::NoPartLaws::no_parts_all))]
+    fn has_no_parts(&self) -> bool
+        ensures { result ≡ true → HasNoParts self.now }
+    {
+        for place in 0..self.nodes.len() {
+            if self.part(NodeId::at(place as u32)).is_some() {
+                return false;
+            }
+        }
+        true
     }
 
     // The flow of an expansion, of which no bounds are kept, where no rule is broken; else the first broken rule.
@@ -317,6 +336,7 @@ impl Flow {
             incoming,
             outgoing,
             bounds: Vec::new(alloc),
+            unsplit: false,
         })
     }
 }

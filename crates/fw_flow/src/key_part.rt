@@ -1,5 +1,6 @@
 //! Parts of the keys.
 ghost use Rattle.std.specs.Prelude.{◌≡◌};
+ghost use Rattle.fw_flow.specs.Dataflow.{receiver};
 ghost use Rattle.fw_flow.specs.KeyParts.{is_of_part_if, may_split, part_of, is_carried};
 ghost use Rattle.fw_flow.specs.KeyParts as spec;
 
@@ -54,10 +55,23 @@ impl Flow {
     pub fn part(&self, node: NodeId) -> Option<KeyPart>
         ensures { result ≡ part_of self.now node }
     {
+        if self.unsplit {
+            return None;
+        }
         match self.nodes.get(node.place() as usize) {
             Some(node) if node.kind.may_split() => node.part,
             _ => None,
         }
+    }
+
+    /// The part of the keys whose recs an edge carries, where its receiver is a replica; any other edge carries all.
+    pub fn part_on(&self, edge: EdgeId) -> Option<KeyPart>
+        ensures { result ≡ part_of self.now (receiver self.now edge) }
+    {
+        if self.unsplit {
+            return None;
+        }
+        self.part(self.dst(edge))
     }
 
     /// Whether an edge carries a rec that its sender sends: it carries those whose keys are of the part of its receiver.
@@ -65,6 +79,6 @@ impl Flow {
     pub fn carries(&self, edge: EdgeId, rec: &Rec) -> bool
         ensures { result ≡ is_carried self.now edge rec.now }
     {
-        is_of_part(self.part(self.dst(edge)), rec.key)
+        is_of_part(self.part_on(edge), rec.key)
     }
 }

@@ -95,7 +95,7 @@ fn add_on_edge(
     requires { edge < length pending.old.items }
     ensures { IfOk result (λ u. ChangesAt edge [] (HasEachMore (stamps_on flow.now edge sent.now)) pending.old.items pending.new.items) }
 {
-    let part = flow.part(flow.dst(edge));
+    let part = flow.part_on(edge);
     let tally = &mut pending[edge.place() as usize];
     add_each(tally, part, sent)?;
     Ok(())

@@ -275,7 +275,7 @@ fn add_carried(
     ensures { IfOk result (λ u. ChangesAt edge [] (StandForManyMore at.now (length (stamps_on flow.now edge sent.now)))
         lists.old.items lists.new.items) }
 {
-    if !has_any_of(flow.part(flow.dst(edge)), sent) {
+    if !has_any_of(flow.part_on(edge), sent) {
         return Ok(());
     }
     add_on(lists, edge, at)

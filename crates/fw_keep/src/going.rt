@@ -151,6 +151,11 @@ fn keep_others<G: Going>(entries: &mut Vec<Entry>, from: usize, going: &G)
     requires { from ≤ length entries.old.items }
     ensures { entries.new.items ≡ take from entries.old.items ++ filter (λ e. not (G.goes going.now e)) (drop from entries.old.items) }
 {
+    if from == 0 {
+        // One that stays is moved once, where swaps move three times.
+        entries.retain(|entry| !going.takes(entry));
+        return;
+    }
     let mut kept = from;
     for place in from..entries.len() {
         if !going.takes(&entries[place]) {

@@ -1,5 +1,5 @@
 -- What is delivered next, and whether something may be delivered or injected.
-use Rattle.std.proofs.Common.{◌≡◌, ℕ, ◌<◌, ◌≤◌, Bool, true, false, not, ◌&&◌, List, [], ◌∷◌, length, Option, Some, None, Result, refl, sym, ap, subst, ◌∙◌, inl, inr, arith}
+use Rattle.std.proofs.Common.{◌≡◌, ℕ, ◌<◌, ◌≤◌, Bool, true, false, not, ◌&&◌, cond, List, [], ◌∷◌, length, Option, Some, None, Result, refl, sym, ap, subst, ◌∙◌, inl, inr, arith}
 use Rattle.std.specs.Prelude.{◌↔◌, IfNone, IfSome, IsTrue, OnOk, find, is_some, option_map, slice_get, slice_set}
 use Rattle.std.proofs.lemmas.Result.{on_ok_weaker}
 use Rattle.std.specs.List.{AllByRecursion}
@@ -31,16 +31,19 @@ use Rattle.fw_events.specs.declared.delivery.Next.{Next}
 pub nothing-past : (all : List MessagesState) (e : ℕ) → length all ≤ e → (on_edge all e).messages ≡ []
 nothing-past all e past = ap (λ (q : MessagesState). q.messages) (get_or_past all e nothing_there past)
 
--- the first message of an edge is the first of its queue
-pub first-of_numbers : (flow : Dataflow) (e : ℕ) (at : Option Stamp) (queue : List Message) → is_numbered flow e ≡ true
-    → find (λ (m : Message). is_asked None m.at) queue ≡ find (λ (m : Message). is_asked (asked_of_queue flow e at) m.at) queue
-first-of_numbers flow e at queue numbers =
-    ap (λ (a : Option Stamp). find (λ (m : Message). is_asked a m.at) queue) (sym (cond-true (is_numbered flow e) None at numbers))
+-- what is asked of the queue of an edge
+pub asked_none : (flow : Dataflow) (e : ℕ) → asked_of_queue flow e None ≡ None
+asked_none flow e = by (is_numbered flow e)
+  where
+    by : (b : Bool) → ◌≡◌ {A = Option Stamp} (cond b None None) None
+    by true = refl
+    by false = refl
 
-pub first-of_others : (flow : Dataflow) (e : ℕ) (at : Option Stamp) (queue : List Message) → is_numbered flow e ≡ false
-    → find (λ (m : Message). is_asked at m.at) queue ≡ find (λ (m : Message). is_asked (asked_of_queue flow e at) m.at) queue
-first-of_others flow e at queue others =
-    ap (λ (a : Option Stamp). find (λ (m : Message). is_asked a m.at) queue) (sym (cond-false (is_numbered flow e) None at others))
+pub asked_numbers : (flow : Dataflow) (e : ℕ) (at : Option Stamp) → is_numbered flow e ≡ true → asked_of_queue flow e at ≡ None
+asked_numbers flow e at numbers = cond-true (is_numbered flow e) None at numbers
+
+pub asked_others : (flow : Dataflow) (e : ℕ) (at : Option Stamp) → is_numbered flow e ≡ false → asked_of_queue flow e at ≡ at
+asked_others flow e at others = cond-false (is_numbered flow e) None at others
 
 -- the domain of numbers alone is that of numbers
 pub not_of_numbers : (d : Domain) → (d ≡ Number → ⊥) → is_of_numbers d ≡ false

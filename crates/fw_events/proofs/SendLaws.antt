@@ -6,6 +6,7 @@ use Rattle.std.proofs.lemmas.Bool.{cases_Bool, or_left, or_right}
 use Rattle.std.proofs.lemmas.List.{get_or_read, take_all}
 use Rattle.fw_lemmas.proofs.Each.{each-at}
 use Rattle.fw_time.specs.Stamp.{Stamp, in_domain}
+use Rattle.fw_bag.specs.declared.rec.Rec.{Rec}
 use Rattle.fw_frontier.specs.Front.{Front}
 use Rattle.fw_flow.specs.declared.event.Message.{Message}
 use Rattle.fw_flow.specs.Dataflow.{Dataflow, bounds_of, is_one_of, out_edges, policy_of}
@@ -13,9 +14,7 @@ use Rattle.fw_flow.specs.Restoring.{can_resend}
 use Rattle.fw_flow.proofs.OutEdgeLaws.{out_edges-from}
 use Rattle.fw_model.specs.Machine.{front_of}
 use Rattle.fw_node.specs.NodeOf.{CanBeSent}
-use Rattle.fw_node.specs.Sends.{messages_of, sends_list}
-use Rattle.fw_node.specs.declared.sends.Sends.{Sends}
-use Rattle.fw_node.proofs.MessageLaws.{messages-length}
+use Rattle.fw_node.specs.Answers.{caused_by}
 use Rattle.fw_running.specs.declared.running.Running.{Running}
 use Rattle.fw_running.specs.Shaped.{IsShaped}
 use Rattle.fw_events.specs.Sending.{ChangesEdges, SendsOn}
@@ -99,10 +98,12 @@ low-read low all place p q f is at to read l =
     get_or_read low q f l read_there []
 
 -- where nothing is sent
-pub sent-none : (old : Running) (p : ℕ) (cause : Stamp) (sends : Sends) → length (sends_list sends) ≡ 0
-    → SendsOn (out_edges old.flow p) (can_resend (policy_of old.flow p)) (messages_of cause sends) old old
-sent-none old p cause sends none = by (messages_of cause sends) (messages-length cause sends ∙ none)
-  where
-    by : (ms : List Message) → length ms ≡ 0 → SendsOn (out_edges old.flow p) (can_resend (policy_of old.flow p)) ms old old
-    by [] k = sends-nothing (out_edges old.flow p) (can_resend (policy_of old.flow p)) old
-    by (m ∷ ms) k = let some : 0 < length (m ∷ ms) = omega arith in absurd (omega arith)
+pub sent-none : (old : Running) (p : ℕ) (cause : Stamp) (sent : List (Stamp × Rec)) → length sent ≡ 0
+    → SendsOn (out_edges old.flow p) (can_resend (policy_of old.flow p)) (caused_by cause sent) old old
+sent-none old p cause [] none = sends-nothing (out_edges old.flow p) (can_resend (policy_of old.flow p)) old
+sent-none old p cause (x ∷ sent) none = let some : 0 < length (x ∷ sent) = omega arith in absurd (omega (arith, some, none))
+
+-- what holds of the one cause holds of each cause
+pub caused-each : (P : Stamp → Type 0) (cause : Stamp) (sent : List (Stamp × Rec)) → P cause → AllByRecursion (λ (m : Message). AllByRecursion P m.causes) (caused_by cause sent)
+caused-each P cause [] k = tt
+caused-each P cause (x ∷ sent) k = ((k, tt), caused-each P cause sent k)

@@ -1,9 +1,13 @@
 -- What is sent on one edge after the other.
-use Rattle.std.proofs.Common.{◌≡◌, ◌≢◌, ℕ, zero, suc, ◌<◌, Bool, true, false, ◌||◌, ◌==◌, cond, List, [], ◌∷◌, length, get_or, take, Option, Result, Ok, Err, refl, sym, ap, subst, ◌∙◌, inl, inr, arith}
-use Rattle.std.specs.Prelude.{◌⊎◌, OnOk, slice_index_or}
-use Rattle.std.specs.List.{Contains}
+use Rattle.std.proofs.Common.{◌≡◌, ◌≢◌, ℕ, zero, suc, ◌<◌, Bool, true, false, ◌||◌, ◌==◌, cond, List, [], ◌∷◌, length, get_or, take, Option, Some, Result, Ok, Err, refl, sym, ap, subst, ◌∙◌, inl, inr, arith}
+use Rattle.std.specs.Prelude.{◌⊎◌, ◌↔◌, IsTrue, OnOk, slice_index_or}
+use Rattle.std.specs.List.{Contains, slice_get}
+use Rattle.std.specs.Option.{option_map}
+use Rattle.std.proofs.lemmas.Option.{slice_get-map, slice_get_read}
 use Rattle.std.proofs.lemmas.Bool.{cases_eq, cond-true, cond-false, eq-eqb, eqb-true, false_from_ne_true, false≢true}
 use Rattle.fw_lemmas.proofs.Numbers.{eqb-sym}
+use Rattle.fw_time.specs.Stamp.{Stamp}
+use Rattle.fw_bag.specs.declared.rec.Rec.{Rec}
 use Rattle.fw_frontier.specs.Front.{inside}
 use Rattle.fw_flow.specs.declared.event.Message.{Message}
 use Rattle.fw_flow.specs.declared.event.Event.{Event}
@@ -20,6 +24,7 @@ use Rattle.fw_model.specs.Machine.{front_of}
 use Rattle.fw_model.specs.SortedMessages.{with_messages}
 use Rattle.fw_model.proofs.CarriedLaws.{carried-is, carried-none}
 use Rattle.fw_edge.specs.Messages.{MessagesState}
+use Rattle.fw_node.specs.Answers.{caused_by}
 use Rattle.fw_rollback.specs.Edges.{on_edge}
 use Rattle.fw_stands.specs.Events.{put_on}
 use Rattle.fw_progress.proofs.OutLaws.{out_edge-new}
@@ -84,19 +89,29 @@ put-one flow all new d g ms none here others e = elim (cases_eq d e) [
 pub part-carries : (flow : Dataflow) (e p : ℕ) (part : Option KeyPart) (ms : List Message) → part ≡ part_of flow p → p ≡ receiver flow e → messages_of_part part ms ≡ carried flow e ms
 part-carries flow e p part ms is here = ap (λ x. messages_of_part x ms) (is ∙ ap (part_of flow) here) ∙ sym (carried-is flow e ms)
 
+-- ---- messages by their places
+
+-- the message at a place is the rec there at its stamp, with the one cause
+pub message-there : (cause : Stamp) (sent : List (Stamp × Rec)) (i : ℕ) (x : Stamp × Rec) → i < length sent → x ≡ get_or sent i x
+    → Some (record { at = x.0; rec = x.1; causes = cause ∷ [] }) ≡ slice_get (caused_by cause sent) i
+message-there cause sent i x l is =
+    let from : Stamp × Rec → Message = λ y. record { at = y.0; rec = y.1; causes = cause ∷ [] } in
+    sym (slice_get-map from sent i ∙ ap (option_map from) (slice_get_read sent (length sent) i x refl l is))
+
 -- ---- one edge
 
 none-or_some : (ms : List Message) → (ms ≡ []) ⊎ (ms ≢ [])
 none-or_some [] = inl refl
 none-or_some (m ∷ ms) = inr (λ k. absurd (cc))
 
--- what is put into the queue of an edge is pending on it, and where nothing was it is among the ready edges
+-- what is put into the queue of an edge is pending on it, and where nothing was and something is now it is among the ready edges
 pub puts-on : (old new : Running) (d : ℕ) (ms : List Message) → new ≡ with_queues new.parts.queues new.ready.edges old
     → length new.parts.queues ≡ length old.parts.queues → queue_at new d ≡ with_messages (carried old.flow d ms) (queue_at old d)
     → ((e : ℕ) → e ≢ d → on_edge new.parts.queues e ≡ on_edge old.parts.queues e)
-    → (queue_at old d ≡ [] → IsPut d old.ready.edges new.ready.edges) → (queue_at old d ≢ [] → new.ready.edges ≡ old.ready.edges)
+    → (queue_at old d ≡ [] → queue_at new d ≢ [] → IsPut d old.ready.edges new.ready.edges)
+    → (queue_at old d ≢ [] → new.ready.edges ≡ old.ready.edges) → (queue_at new d ≡ [] → new.ready.edges ≡ old.ready.edges)
     → PutsOn d ms old new
-puts-on old new d ms is each here others empty full = record {
+puts-on old new d ms is each here others empty full none_now = record {
   each = each;
   queues = put-one old.flow old.parts.queues new.parts.queues d (λ xs. xs) ms refl here others;
   ready = λ all e c.
@@ -104,7 +119,7 @@ puts-on old new d ms is each here others empty full = record {
       let live : is_down old (receiver old.flow e) ≡ false = sym (ap (λ (r : Running). is_down r (receiver r.flow e)) is) ∙ c.live in
       elim (cases_eq d e) [
         | inl k ↦ elim (none-or_some (queue_at old d)) [
-          | inl none ↦ subst (Contains new.ready.edges) k (empty none).there
+          | inl none ↦ subst (Contains new.ready.edges) k (empty none (λ now. c.some (ap (queue_at new) (sym k) ∙ now))).there
           | inr some ↦ subst (λ es. Contains es e) (sym (full some))
               (all e (record { there = there; live = live; some = λ none. some (ap (queue_at old) k ∙ none) }))
         ]
@@ -112,23 +127,34 @@ puts-on old new d ms is each here others empty full = record {
             let same : queue_at new e ≡ queue_at old e = ap (λ (m : MessagesState). m.messages) (others e (λ k. n (sym k))) in
             let was = all e (record { there = there; live = live; some = λ none. c.some (same ∙ none) }) in
             elim (none-or_some (queue_at old d)) [
-              | inl none ↦ (empty none).stays e was
+              | inl none ↦ elim (none-or_some (queue_at new d)) [
+                | inl now ↦ subst (λ es. Contains es e) (sym (none_now now)) was
+                | inr some ↦ (empty none some).stays e was
+              ]
               | inr some ↦ subst (λ es. Contains es e) (sym (full some)) was
             ]
       ];
 }
 
--- so it is after the edge is put among the ready ones, where nothing was pending
-pub puts-after : (old mid : Running) (d : ℕ) (ms : List Message) (queues : List MessagesState) → mid ≡ with_queues old.parts.queues mid.ready.edges old
-    → length queues ≡ length mid.parts.queues → (on_edge queues d).messages ≡ with_messages (carried mid.flow d ms) (queue_at mid d)
-    → ((e : ℕ) → e ≢ d → on_edge queues e ≡ on_edge mid.parts.queues e)
-    → (queue_at old d ≡ [] → IsPut d old.ready.edges mid.ready.edges) → (queue_at old d ≢ [] → mid.ready.edges ≡ old.ready.edges)
-    → PutsOn d ms old (with_queues queues mid.ready.edges mid)
-puts-after old mid d ms queues is each here others empty full =
-    let same : mid.parts.queues ≡ old.parts.queues = ap (λ (r : Running). r.parts.queues) is in
-    puts-on old (with_queues queues mid.ready.edges mid) d ms (ap (with_queues queues mid.ready.edges) is) (each ∙ ap length same)
-    (here ∙ ap (λ (f : Dataflow). with_messages (carried f d ms) (queue_at mid d)) (ap (λ (r : Running). r.flow) is)
-    ∙ ap (λ qs. with_messages (carried old.flow d ms) (on_edge qs d).messages) same) (λ e n. others e n ∙ ap (λ qs. on_edge qs e) same) empty full
+-- what is kept with these queues has these queues
+pub queues-kept : (old new : Running) (queues : List MessagesState) → new ≡ with_queues queues new.ready.edges old → new ≡ with_queues new.parts.queues new.ready.edges old
+queues-kept old new queues is = is ∙ ap (λ qs. with_queues qs new.ready.edges old) (sym (ap (λ (r : Running). r.parts.queues) is))
+
+-- so it is where it was asked before whether nothing was pending
+pub puts-noted : (old new : Running) (d : ℕ) (ms : List Message) (queues : List MessagesState) (none_before : Bool) → new ≡ with_queues queues new.ready.edges old
+    → length queues ≡ length old.parts.queues → (on_edge queues d).messages ≡ with_messages (carried old.flow d ms) (queue_at old d)
+    → ((e : ℕ) → e ≢ d → on_edge queues e ≡ on_edge old.parts.queues e) → IsTrue none_before ↔ (queue_at old d ≡ [])
+    → (none_before ≡ true → (on_edge queues d).messages ≢ [] → IsPut d old.ready.edges new.ready.edges)
+    → (none_before ≡ false → new.ready.edges ≡ old.ready.edges) → ((on_edge queues d).messages ≡ [] → new.ready.edges ≡ old.ready.edges)
+    → PutsOn d ms old new
+puts-noted old new d ms queues none_before is each here others before put stays none_now =
+    let kept : new.parts.queues ≡ queues = ap (λ (r : Running). r.parts.queues) is in
+    let now : queue_at new d ≡ (on_edge queues d).messages = ap (λ qs. (on_edge qs d).messages) kept in
+    puts-on old new d ms (queues-kept old new queues is) (ap length kept ∙ each) (now ∙ here)
+    (λ e n. ap (λ qs. on_edge qs e) kept ∙ others e n)
+    (λ none some. put (before.1 none) (λ gone. some (now ∙ gone)))
+    (λ some. stays (false_from_ne_true none_before (λ h. some (before.0 h))))
+    (λ none. none_now (sym now ∙ none))
 
 -- what is put into the log of an edge is logged on it
 pub logs-on : (old new : Running) (d : ℕ) (ms : List Message) → length new.parts.logs ≡ length old.parts.logs

@@ -104,10 +104,21 @@ fn first_on<'a>(running: &'a Running, edge: EdgeId, at: Option<&Stamp>) -> Optio
         (queue_at running.now edge) }
 {
     let queue = running.parts.queues.get(edge)?;
-    if is_numbered(&running.flow, edge) {
-        return queue.first(None);
+    queue.first(asked_of(&running.flow, edge, at))
+}
+
+// What is asked of the queue of an edge, where this is asked for: on a numbered edge the first of all.
+#[tactic(auto, using(crate::proofs::AskedLaws::asked_none, crate::proofs::AskedLaws::asked_numbers, crate::proofs::AskedLaws::asked_others))]
+fn asked_of<'a>(flow: &Flow, edge: EdgeId, at: Option<&'a Stamp>) -> Option<&'a Stamp>
+    ensures { option_copied result ≡ asked_of_queue flow.now edge (option_copied at.entry) }
+{
+    let Some(at) = at else {
+        return None;
+    };
+    if is_numbered(flow, edge) {
+        return None;
     }
-    queue.first(at)
+    Some(at)
 }
 
 // Whether an edge leads into the domain of numbers.

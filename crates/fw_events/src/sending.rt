@@ -8,7 +8,9 @@ ghost use Rattle.fw_flow.specs.KeyParts.{is_of_part_if};
 ghost use Rattle.fw_model.specs.Carried.{messages_of_part};
 ghost use Rattle.fw_model.specs.Filtering.{messages_outside};
 ghost use Rattle.fw_model.specs.SortedMessages.{with_messages};
+ghost use Rattle.fw_node.specs.Answers.{caused_by};
 ghost use Rattle.fw_node.specs.NodeOf.{CanBeSent, stamps_of};
+ghost use Rattle.fw_progress.specs.Progress.{stamps_of_recs};
 ghost use Rattle.fw_node.specs.Sends.{messages_of, sends_list};
 ghost use Rattle.fw_rollback.specs.Edges.{on_edge};
 ghost use Rattle.fw_running.specs.Kept.{queue_at, is_down};
@@ -18,8 +20,9 @@ ghost use Rattle.fw_events.specs.Sending.{with_queues, with_logs, ChangesEdges, 
 ghost use Rattle.fw_events.specs.ToldSends.{told_list};
 
 use crate::told::ToldSends;
+use fw_bag::Rec;
 use fw_edge::{MsgLog, Queue};
-use fw_flow::{EdgeId, KeyPart, Message, NodeId, is_of_part};
+use fw_flow::{Causes, EdgeId, KeyPart, Message, NodeId, is_of_part};
 use fw_frontier::Front;
 use fw_node::Sends;
 use fw_rollback::{Logs, Queues};
@@ -46,8 +49,9 @@ pub(crate) fn send(
         (messages_of cause.now sends.now) running.old running.new) }
     ensures shaped { OnOk result (IsShaped running.new) }
 {
-    send_each(running, node, cause, sends)?;
-    ToldSends::of(running.alloc, sends)
+    let told = ToldSends::of(running.alloc, sends)?;
+    send_each(running, node, cause, told.as_slice())?;
+    Ok(told)
 }
 
 // What an event of a node at a stamp sends goes to one out-edge after the other.
@@ -55,23 +59,23 @@ fn send_each(
     running: &mut Running,
     node: NodeId,
     cause: &Stamp,
-    sends: &Sends,
+    sent: &[(Stamp, Rec)],
 ) -> Result<(), AllocError>
     requires shaped { IsShaped running.old }
     requires there { node < length running.old.flow.nodes }
     requires cause { in_domain (bounds_of running.old.flow node) cause.now ≡ true }
-    requires can_be_sent { CanBeSent running.old.flow node (stamps_of sends.now) }
+    requires can_be_sent { CanBeSent running.old.flow node (stamps_of_recs sent.now) }
     ensures others { ChangesEdges running.old running.new }
     ensures sent { OnOk result (SendsOn (out_edges running.old.flow node) (restoring.can_resend (policy_of running.old.flow node))
-        (messages_of cause.now sends.now) running.old running.new) }
+        (caused_by cause.now sent.now) running.old running.new) }
     ensures shaped { OnOk result (IsShaped running.new) }
 {
-    if sends.len() == 0 {
+    if sent.is_empty() {
         return Ok(());
     }
     for place in 0..running.flow.out_edges(node).len() {
         let edge = running.flow.out_edges(node)[place];
-        send_on(running, node, edge, cause, sends)?;
+        send_on(running, node, edge, cause, sent)?;
     }
     Ok(())
 }
@@ -82,16 +86,16 @@ fn send_on(
     node: NodeId,
     edge: EdgeId,
     cause: &Stamp,
-    sends: &Sends,
+    sent: &[(Stamp, Rec)],
 ) -> Result<(), AllocError>
     requires shaped { IsShaped running.old }
     requires there { edge < length running.old.flow.edges }
     ensures others { ChangesEdges running.old running.new }
     ensures sent { OnOk result (SendsOn (edge ∷ []) (restoring.can_resend (policy_of running.old.flow node))
-        (messages_of cause.now sends.now) running.old running.new) }
+        (caused_by cause.now sent.now) running.old running.new) }
 {
-    put_live(running, edge, cause, sends)?;
-    log_sent(running, node, edge, cause, sends)
+    put_live(running, edge, cause, sent)?;
+    log_sent(running, node, edge, cause, sent)
 }
 
 // What is sent is pending on an edge, if its receiver is not failed.
@@ -99,18 +103,18 @@ fn put_live(
     running: &mut Running,
     edge: EdgeId,
     cause: &Stamp,
-    sends: &Sends,
+    sent: &[(Stamp, Rec)],
 ) -> Result<(), AllocError>
     requires there { edge < length running.old.parts.queues }
     ensures others { running.new ≡ with_queues running.new.parts.queues running.new.ready.edges running.old }
     ensures down { is_down running.old (receiver running.old.flow edge) ≡ true → running.new ≡ running.old }
     ensures live { is_down running.old (receiver running.old.flow edge) ≡ false
-        → OnOk result (PutsOn edge (messages_of cause.now sends.now) running.old running.new) }
+        → OnOk result (PutsOn edge (caused_by cause.now sent.now) running.old running.new) }
 {
     if running.is_failed(running.flow.dst(edge)) {
         return Ok(());
     }
-    put_on(running, edge, cause, sends)
+    put_on(running, edge, cause, sent)
 }
 
 // What is sent is pending on an edge.
@@ -118,24 +122,27 @@ fn put_on(
     running: &mut Running,
     edge: EdgeId,
     cause: &Stamp,
-    sends: &Sends,
+    sent: &[(Stamp, Rec)],
 ) -> Result<(), AllocError>
     requires there { edge < length running.old.parts.queues }
     ensures others { running.new ≡ with_queues running.new.parts.queues running.new.ready.edges running.old }
-    ensures put { OnOk result (PutsOn edge (messages_of cause.now sends.now) running.old running.new) }
+    ensures put { OnOk result (PutsOn edge (caused_by cause.now sent.now) running.old running.new) }
 {
-    note_pending(running, edge)?;
+    let none_before = nothing_pending(&running.parts.queues, edge);
     let part = running.flow.part(running.flow.dst(edge));
-    put_in(&mut running.parts.queues, edge, part, cause, sends)
+    put_in(&mut running.parts.queues, edge, part, cause, sent)?;
+    note_pending(running, edge, none_before)?;
+    Ok(())
 }
 
-// An edge on which nothing was pending is put among the ready ones.
-fn note_pending(running: &mut Running, edge: EdgeId) -> Result<(), AllocError>
+// An edge on which nothing was pending before is put among the ready ones, if something is now.
+fn note_pending(running: &mut Running, edge: EdgeId, none_before: bool) -> Result<(), AllocError>
     ensures others { running.new ≡ with_queues running.old.parts.queues running.new.ready.edges running.old }
-    ensures none { queue_at running.old edge ≡ [] → OnOk result (IsPut edge running.old.ready.edges running.new.ready.edges) }
-    ensures some { queue_at running.old edge ≢ [] → running.new.ready.edges ≡ running.old.ready.edges }
+    ensures put { none_before ≡ true → queue_at running.old edge ≢ [] → OnOk result (IsPut edge running.old.ready.edges running.new.ready.edges) }
+    ensures stays { none_before ≡ false → running.new.ready.edges ≡ running.old.ready.edges }
+    ensures none { queue_at running.old edge ≡ [] → running.new.ready.edges ≡ running.old.ready.edges }
 {
-    if !nothing_pending(&running.parts.queues, edge) {
+    if !none_before || nothing_pending(&running.parts.queues, edge) {
         return Ok(());
     }
     running.ready.put_edge(edge)
@@ -157,16 +164,16 @@ fn put_in(
     edge: EdgeId,
     part: Option<KeyPart>,
     cause: &Stamp,
-    sends: &Sends,
+    sent: &[(Stamp, Rec)],
 ) -> Result<(), AllocError>
     requires { edge < length queues.old }
     ensures each { length queues.new ≡ length queues.old }
     ensures here { OnOk result ((on_edge queues.new edge).messages
-        ≡ with_messages (messages_of_part part (messages_of cause.now sends.now)) (on_edge queues.old edge).messages) }
+        ≡ with_messages (messages_of_part part (caused_by cause.now sent.now)) (on_edge queues.old edge).messages) }
     ensures others { (e : ℕ) → e ≢ edge → on_edge queues.new e ≡ on_edge queues.old e }
 {
     match queues.get_mut(edge) {
-        Some(queue) => put_each(queue, part, cause, sends),
+        Some(queue) => put_each(queue, part, cause, sent),
         None => Ok(()),
     }
 }
@@ -177,19 +184,19 @@ fn log_sent(
     node: NodeId,
     edge: EdgeId,
     cause: &Stamp,
-    sends: &Sends,
+    sent: &[(Stamp, Rec)],
 ) -> Result<(), AllocError>
     requires there { edge < length running.old.parts.logs }
     requires low { receiver running.old.flow edge < length running.old.parts.low }
     ensures others { running.new ≡ with_logs running.new.parts.logs running.old }
     ensures again { restoring.can_resend (policy_of running.old.flow node) ≡ true
-        → OnOk result (LogsOn edge (messages_of cause.now sends.now) running.old running.new) }
+        → OnOk result (LogsOn edge (caused_by cause.now sent.now) running.old running.new) }
     ensures never { restoring.can_resend (policy_of running.old.flow node) ≡ false → running.new ≡ running.old }
 {
     if !running.flow.policy(node).can_resend() {
         return Ok(());
     }
-    log_on(running, edge, cause, sends)
+    log_on(running, edge, cause, sent)
 }
 
 // What is sent outside the receiver's low watermark is in the log of an edge.
@@ -197,17 +204,17 @@ fn log_on(
     running: &mut Running,
     edge: EdgeId,
     cause: &Stamp,
-    sends: &Sends,
+    sent: &[(Stamp, Rec)],
 ) -> Result<(), AllocError>
     requires there { edge < length running.old.parts.logs }
     requires low { receiver running.old.flow edge < length running.old.parts.low }
     ensures others { running.new ≡ with_logs running.new.parts.logs running.old }
-    ensures logged { OnOk result (LogsOn edge (messages_of cause.now sends.now) running.old running.new) }
+    ensures logged { OnOk result (LogsOn edge (caused_by cause.now sent.now) running.old running.new) }
 {
     let receiver = running.flow.dst(edge);
     let part = running.flow.part(receiver);
     let low = &running.parts.low.as_slice()[receiver.place() as usize];
-    log_in(&mut running.parts.logs, edge, part, low, cause, sends)
+    log_in(&mut running.parts.logs, edge, part, low, cause, sent)
 }
 
 // Of what is sent that whose key is of the part, and which lies outside a frontier, is in the log of an edge.
@@ -217,17 +224,17 @@ fn log_in(
     part: Option<KeyPart>,
     low: &Front,
     cause: &Stamp,
-    sends: &Sends,
+    sent: &[(Stamp, Rec)],
 ) -> Result<(), AllocError>
     requires { edge < length logs.old }
     ensures each { length logs.new ≡ length logs.old }
     ensures here { OnOk result ((on_edge logs.new edge).messages
-        ≡ with_messages (messages_outside (inside low.now) (messages_of_part part (messages_of cause.now sends.now)))
+        ≡ with_messages (messages_outside (inside low.now) (messages_of_part part (caused_by cause.now sent.now)))
         (on_edge logs.old edge).messages) }
     ensures others { (e : ℕ) → e ≢ edge → on_edge logs.new e ≡ on_edge logs.old e }
 {
     match logs.get_mut(edge) {
-        Some(log) => log_each(log, part, low, cause, sends),
+        Some(log) => log_each(log, part, low, cause, sent),
         None => Ok(()),
     }
 }
@@ -237,27 +244,36 @@ fn put_each(
     queue: &mut Queue,
     part: Option<KeyPart>,
     cause: &Stamp,
-    sends: &Sends,
+    sent: &[(Stamp, Rec)],
 ) -> Result<(), AllocError>
-    ensures { OnOk result (queue.new.messages ≡ with_messages (messages_of_part part (messages_of cause.now sends.now)) queue.old.messages) }
+    ensures { OnOk result (queue.new.messages ≡ with_messages (messages_of_part part (caused_by cause.now sent.now)) queue.old.messages) }
 {
     // This call tells that the messages of the queue are in order.
     let _none = queue.is_empty();
-    for place in 0..sends.len() {
-        if let Some(message) = sends.message(place, cause) {
-            if is_of_part(part, message.rec.key) {
-                queue.put(message)?;
-            }
+    for one in sent {
+        if is_of_part(part, one.1.key) {
+            queue.put(caused(&one.0, one.1, cause))?;
         }
     }
     Ok(())
 }
 
-/// Whether a message belongs in a log: its key is of the part, and it lies outside the receiver's low watermark.
-fn is_logged(part: Option<KeyPart>, low: &Front, message: &Message) -> bool
-    ensures { result ≡ (is_of_part_if part message.now.rec.key && not (inside low.now message.now.at)) }
+// A rec that an event at a stamp sends, as a message.
+fn caused(at: &Stamp, rec: Rec, cause: &Stamp) -> Message
+    ensures { result ≡ record { at = at.now; rec = rec; causes = cause.now ∷ [] } }
 {
-    is_of_part(part, message.rec.key) && !low.contains(&message.at)
+    Message {
+        at: at.copy(),
+        rec,
+        causes: Causes::of(cause.copy()),
+    }
+}
+
+// Whether a rec at a stamp belongs in a log: its key is of the part, and it lies outside the receiver's low watermark.
+fn is_logged(part: Option<KeyPart>, low: &Front, at: &Stamp, rec: Rec) -> bool
+    ensures { result ≡ (is_of_part_if part rec.key && not (inside low.now at.now)) }
+{
+    is_of_part(part, rec.key) && !low.contains(at)
 }
 
 /// Of what is sent that whose key is of the part, and which lies outside the receiver's low watermark, is kept in the log. The
@@ -267,18 +283,16 @@ fn log_each(
     part: Option<KeyPart>,
     low: &Front,
     cause: &Stamp,
-    sends: &Sends,
+    sent: &[(Stamp, Rec)],
 ) -> Result<(), AllocError>
     ensures { OnOk result (log.new.messages
-        ≡ with_messages (messages_outside (inside low.now) (messages_of_part part (messages_of cause.now sends.now))) log.old.messages) }
+        ≡ with_messages (messages_outside (inside low.now) (messages_of_part part (caused_by cause.now sent.now))) log.old.messages) }
 {
     // This call tells that the messages of the log are in order.
     let _none = log.is_empty();
-    for place in 0..sends.len() {
-        if let Some(message) = sends.message(place, cause) {
-            if is_logged(part, low, &message) {
-                log.append(message)?;
-            }
+    for one in sent {
+        if is_logged(part, low, &one.0, one.1) {
+            log.append(caused(&one.0, one.1, cause))?;
         }
     }
     Ok(())

@@ -1,12 +1,13 @@
-use Rattle.std.proofs.Common.{Option, None, ap, sym, ◌∙◌}
+use Rattle.std.proofs.Common.{Option, ap, sym, ◌∙◌}
 use Rattle.std.specs.Borrow.{Bor}
 use Rattle.std.specs.Option.{option_copied}
 use Rattle.std.specs.Prelude.{find}
+use Rattle.fw_time.specs.Stamp.{Stamp}
 use Rattle.fw_flow.specs.declared.event.Message.{Message}
 use Rattle.fw_model.specs.Steps.{is_asked}
 use Rattle.fw_stands.specs.Events.{asked_of_queue}
 use Rattle.fw_running.specs.Kept.{queue_at}
-use Rattle.fw_events.proofs.AskedLaws.{first-of_numbers, first-of_others, nothing-first, queue-there}
+use Rattle.fw_events.proofs.AskedLaws.{nothing-first, queue-there}
 use Rattle.fw_events.proofs.delivery.first_on.Goals as goal
 
 pub returns-in_err-queue : goal.returns-in_err-queue
@@ -15,16 +16,9 @@ returns-in_err-queue c =
     ∙ nothing-first c.args.running.now.parts.queues c.args.edge (λ (m : Message). is_asked (asked_of_queue c.args.running.now.flow c.args.edge (option_copied c.args.at)) m.at)
     c.in_err-queue.ensures
 
-pub returns-then-is_numbered : goal.returns-then-is_numbered
-returns-then-is_numbered c =
-    let running = c.args.running.now in
-    c.first.ensures
-    ∙ ap (find (λ (m : Message). is_asked None m.at)) (sym (queue-there running.parts.queues c.args.edge c.in_ok-queue.queue.now c.in_ok-queue.ensures))
-    ∙ first-of_numbers running.flow c.args.edge (option_copied c.args.at) (queue_at running c.args.edge) (sym c.is_numbered.ensures ∙ c.if-is_numbered.true)
-
 pub returns : goal.returns
 returns c =
     let running = c.args.running.now in
-    c.first-2.ensures
-    ∙ ap (find (λ (m : Message). is_asked (option_copied c.args.at) m.at)) (sym (queue-there running.parts.queues c.args.edge c.in_ok-queue.queue.now c.in_ok-queue.ensures))
-    ∙ first-of_others running.flow c.args.edge (option_copied c.args.at) (queue_at running c.args.edge) (sym c.is_numbered.ensures ∙ c.if-is_numbered.false)
+    c.first.ensures
+    ∙ ap (find (λ (m : Message). is_asked (option_copied c.asked_of.result) m.at)) (sym (queue-there running.parts.queues c.args.edge c.in_ok-queue.queue.now c.in_ok-queue.ensures))
+    ∙ ap (λ (a : Option Stamp). find (λ (m : Message). is_asked a m.at) (queue_at running c.args.edge)) c.asked_of.ensures

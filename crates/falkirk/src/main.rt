@@ -7,6 +7,7 @@ use fw_choosing::{falkirk_choose, is_choosing, names_of_texts};
 use fw_lines::INPUTS_LIMIT;
 use fw_live::{StreamLines, falkirk_live, is_live, name_of_text};
 use fw_outside::{FaultlessStore, Sink};
+use fw_pace::printed;
 use fw_run::{Status, falkirk};
 use fw_telling::{ReadFolder, TellingSink, read_texts};
 use std::io::{ErrorKind, IsTerminal};
@@ -46,7 +47,7 @@ fn run_words<N: Sink>(rt: &HostRuntime, words: &[String], notes: &mut N) -> u8 {
         words: words.as_slice(),
         is_person: rt.stderr().is_terminal(),
     };
-    let mut out = AckSink::new(alloc, TellingSink::new(rt.stdout()));
+    let mut out = AckSink::new(alloc, printed(rt, call.is_person && !is_live(&words)));
     let ended = if is_choosing(&words) {
         choose(rt, &words, &mut out, notes)
     } else if is_live(&words) {

@@ -19,6 +19,7 @@ use fw_flow_text::FLOW_LIMIT;
 use fw_lines::INPUTS_LIMIT;
 use fw_live::is_live;
 use fw_outside::{Sink, Store};
+use fw_pace::printed;
 use fw_run::{Status, falkirk, tell};
 use fw_show::{ShowFault, show};
 use fw_telling::{ReadFolder, TellingSink, read_texts};
@@ -147,7 +148,7 @@ fn run_command<'a, N: Sink>(
             let _ = tell_cause(alloc, store, &cause, AHEAD, notes);
         }
     }
-    let mut out = AckSink::new(alloc, TellingSink::new(rt.stdout()));
+    let mut out = AckSink::new(alloc, printed(rt, call.is_person));
     let status = answer(rt, words, store, &mut out, notes);
     if call.is_person {
         if let Ok(told) = store.told() {

@@ -1,6 +1,9 @@
 pub mod ByteLaws
+pub mod ClaimLaws
 pub mod LineMoments
 pub mod Moments
+pub mod NameLaws
+pub mod PieceLaws
 pub mod PutMoments
 pub mod Refuted
 pub mod RunCalls

@@ -1,8 +1,6 @@
 -- What lines tell, and what is written of them.
 use Rattle.std.proofs.Common.{◌≡◌, ℕ, ◌+◌, ◌<◌, ◌^◌, ◌==◌, Bool, true, false, cond, not, ◌&&◌, List, [], ◌∷◌, ◌++◌, length, take, drop, reverse, Option, Some, None, Result, Ok, Err, refl, sym, ap, subst, ◌∙◌, append_assoc, eq-eqb, eqb-true, ne_eqb, arith}
 use Rattle.std.proofs.lemmas.List.Elements.{All-cons, All-head, All-nil, All-tail}
-use Rattle.std.proofs.lemmas.List.Splits.{slice_split_none, slice_split_at, slice_split_first, length-slice_split}
-use Rattle.std.proofs.lemmas.List.Sums.{fails_before_first}
 use Rattle.std.proofs.lemmas.Fmt.{decimal_is_IsNumeral, parse-decimal}
 use Rattle.std.proofs.lemmas.Slice.Eq.{bytes_eq-Decides}
 use Rattle.std.proofs.lemmas.Bool.{and_parts}
@@ -17,15 +15,16 @@ use Rattle.std.specs.Fmt.{decimal}
 use Rattle.std.specs.Cmp.{unsigned_tied}
 use Rattle.std.specs.Map.{lookup, keys_of}
 use Rattle.std.specs.Ordering.{nat_cmp, eq_by_cmp}
-use Rattle.std.specs.List.{All, AllByRecursion, IsDistinct, slice_split, position_or_len, before_first, after_first}
+use Rattle.std.specs.List.{All, AllByRecursion, IsDistinct, position_or_len, before_first, after_first}
 use Rattle.std.specs.Result.{result_unwrap_or}
 use Rattle.std.specs.Str.{bytes_eq}
 use Rattle.std.specs.Str.Parse.{AllDigits, digits_value, ParsesUnsigned}
 use Rattle.hex.specs.Hex.{encode_lower, decode_of, decode_sized, IsBytes, is_hex_digit}
 use Rattle.hex.specs.declared.error.FromHexError.{FromHexError}
 use Rattle.hex.proofs.HexLemmas.{decode_of-encode_lower, decode_of-ok, decode_sized-ok, decode_sized-twice}
+use Rattle.fw_disk.proofs.PieceLaws.{pieces_at}
 use Rattle.fw_disk.proofs.TableLaws.{Digests, listed}
-use Rattle.fw_disk.specs.RunLines.{line_words, IsDigest, IsEntry, digest_line, lines_under, text_of, IsRecordLine, is_feed, is_space, but_last, whole_lines, id_in, digest_in, is_record_line, line_told, told_more, told_after, if_any}
+use Rattle.fw_disk.specs.RunLines.{line_words, IsDigest, IsEntry, digest_line, lines_under, text_of, IsRecordLine, is_space, whole_lines, id_in, digest_in, is_record_line, line_told, told_more, told_after, if_any}
 
 -- ---- a text that is cut at a byte
 
@@ -43,21 +42,6 @@ before_at c front rest h = ap (λ n. take n (front ++ c ∷ rest)) (first_at c f
 
 pub after_at : (c : ℕ) (front rest : List ℕ) → Lacks c front → after_first (λ b. b == c) (front ++ c ∷ rest) ≡ rest
 after_at c front rest h = ap (λ n. drop (n + 1) (front ++ c ∷ rest)) (first_at c front rest h) ∙ drop-append-add front (c ∷ rest) 1
-
--- ---- the lines of a text
-
-but_last-cons : (x : List ℕ) (parts : List (List ℕ)) → 0 < length parts → but_last (x ∷ parts) ≡ x ∷ but_last parts
-but_last-cons x [] l = absurd (omega arith)
-but_last-cons x (part ∷ parts) l = refl
-
-some_part : (text : List ℕ) → 0 < length (slice_split is_feed text)
-some_part text = omega (arith, length-slice_split is_feed text)
-
-pub lines_none : (text : List ℕ) → position_or_len is_feed text ≡ length text → whole_lines text ≡ []
-lines_none text e = ap but_last (slice_split_none is_feed text (λ k d l. fails_before_first is_feed text k d (omega (arith, e, l))))
-
-pub lines_first : (text : List ℕ) → position_or_len is_feed text < length text → whole_lines text ≡ before_first is_feed text ∷ whole_lines (after_first is_feed text)
-lines_first text l = ap but_last (slice_split_first is_feed text 0 l) ∙ but_last-cons (before_first is_feed text) (slice_split is_feed (after_first is_feed text)) (some_part (after_first is_feed text))
 
 -- ---- the words of a record
 
@@ -167,7 +151,7 @@ words_lack id digest fits bytes =
     (All-cons (λ b. (b == 10) ≡ false) 32 (encode_lower digest) refl (digest_lacks digest bytes)))
 
 whole_line : (words rest : List ℕ) → Lacks 10 words → whole_lines (words ++ 10 ∷ rest) ≡ words ∷ whole_lines rest
-whole_line words rest h = ap but_last (slice_split_at is_feed words 10 rest h refl) ∙ but_last-cons words (slice_split is_feed rest) (some_part rest)
+whole_line words rest h = pieces_at 10 words rest h
 
 abbrev pub AreDigests : List (List ℕ) → Type 0
 AreDigests digests = AllByRecursion IsDigest digests

@@ -1,8 +1,11 @@
+pub mod Causes
 pub mod Contents
 pub mod FolderCalls
 pub mod KnownFiles
+pub mod Names
 pub mod RunLines
 pub mod Paths
+pub mod Pieces
 pub mod PowerLoss
 pub mod Survival
 pub mod Told

@@ -1,6 +1,6 @@
 -- The file `run`: a line for each record, and what the lines allow.
-use Rattle.std.specs.Prelude.{◌≡◌, ℕ, ◌<◌, ◌^◌, ◌==◌, nat_lt, Bool, true, false, ◌&&◌, if◌then◌else◌, List, [], ◌∷◌, ◌++◌, length, Option, Some, None, Vec, option_map, unwrap_or, Contains, IfSome}
-use Rattle.std.specs.List.{AllByRecursion, IsDistinct, slice_split, before_first, after_first}
+use Rattle.std.specs.Prelude.{◌≡◌, ℕ, ◌<◌, ◌^◌, ◌==◌, nat_lt, Bool, true, false, ◌&&◌, if◌then◌else◌, List, [], ◌∷◌, ◌++◌, length, Option, Some, None, Vec, option_map, unwrap_or, Contains, IsSome, IfSome}
+use Rattle.std.specs.List.{AllByRecursion, IsDistinct, before_first, after_first}
 use Rattle.std.specs.Map.{keys_of}
 use Rattle.std.specs.Fmt.{decimal}
 use Rattle.std.specs.Result.{result_unwrap_or}
@@ -10,6 +10,7 @@ use Rattle.std.specs.BTreeMap.{BTreeMap, get}
 use Rattle.std.specs.Ordering.{nat_cmp, eq_by_cmp}
 use Rattle.std.specs.declared.alloc.Global.{Global}
 use Rattle.hex.specs.Hex.{encode_lower, decode_of, IsBytes}
+use Rattle.fw_disk.specs.Pieces.{pieces}
 
 -- the line of a record without its line feed: the digits of its id, a space, and the hexadecimal digits of its digest
 abbrev pub line_words : ℕ → List ℕ → List ℕ
@@ -31,22 +32,13 @@ pub record IsRecordLine (id : ℕ) (digest words : List ℕ) : Type 0 where
 
 -- ---- what a text tells
 
--- whether a byte is a line feed, or a space
-abbrev pub is_feed : ℕ → Bool
-is_feed byte = byte == 10
-
+-- whether a byte is a space
 abbrev pub is_space : ℕ → Bool
 is_space byte = byte == 32
 
--- all but the last
-abbrev pub but_last : List (List ℕ) → List (List ℕ)
-but_last [] = []
-but_last (part ∷ []) = []
-but_last (part ∷ next ∷ parts) = part ∷ but_last (next ∷ parts)
-
 -- the whole lines of a text, each without its line feed; what stands behind the last line feed is none
 abbrev pub whole_lines : List ℕ → List (List ℕ)
-whole_lines text = but_last (slice_split is_feed text)
+whole_lines text = pieces 10 text
 
 -- the number before the first space, and the bytes that hexadecimal digits behind it spell
 abbrev pub id_in : List ℕ → ℕ
@@ -128,3 +120,11 @@ are_any (digest ∷ digests) = true
 -- a record with this digest may stand under an id: it has no line, or this digest is among those that it may have
 abbrev pub MayStand : BTreeMap ℕ (Vec (List ℕ) Global) → ℕ → List ℕ → Type 0
 MayStand told id digest = IfSome (digests_of told id) (λ digests. Contains digests digest)
+
+-- each digest that stands under an id is one of those that may stand there by these lines
+abbrev pub StandByLines : BTreeMap ℕ (Vec (List ℕ) Global) → BTreeMap ℕ (Vec (List ℕ) Global) → Type 0
+StandByLines lines claimed = (id : ℕ) → AllByRecursion (MayStand lines id) (digests_under claimed id)
+
+-- each id that has one of these lines has one here
+abbrev pub HasLinesOf : BTreeMap ℕ (Vec (List ℕ) Global) → BTreeMap ℕ (Vec (List ℕ) Global) → Type 0
+HasLinesOf lines claimed = (id : ℕ) → IsSome (digests_of lines id) → IsSome (digests_of claimed id)

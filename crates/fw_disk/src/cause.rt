@@ -1,5 +1,7 @@
 //! Why a call of the store failed.
-ghost use Rattle.std.specs.Prelude.{◌≡◌, IsOk, ◌↔◌};
+ghost use Rattle.std.specs.Prelude.{◌≡◌, false, IsTrue, ◌↔◌};
+ghost use Rattle.std.specs.IoError.{error_kind};
+ghost use Rattle.fw_disk.specs.Causes as causes;
 ghost use Rattle.fw_disk.specs.declared.cause.DiskRefusal.TheVariants.{NoMemory};
 
 use crate::Difference;
@@ -87,12 +89,16 @@ pub struct Fault {
 
 impl DiskRefusal {
     /// Something is wrong at a place.
-    pub(crate) const fn at(place: DiskPlace, trouble: Trouble) -> Self {
+    pub(crate) const fn at(place: DiskPlace, trouble: Trouble) -> Self
+        ensures { causes.tells_gone result ≡ causes.is_gone trouble }
+    {
         DiskRefusal::Failed(DiskCause { place, trouble })
     }
 
     /// The system refused a call at a place.
-    pub(crate) fn of(place: DiskPlace, error: io::Error) -> Self {
+    pub(crate) fn of(place: DiskPlace, error: io::Error) -> Self
+        ensures { causes.tells_gone result ≡ false }
+    {
         match error.kind() {
             ErrorKind::OutOfMemory => DiskRefusal::NoMemory,
             _ => DiskRefusal::at(place, Trouble::System(error)),
@@ -100,7 +106,10 @@ impl DiskRefusal {
     }
 
     /// The system refused a call on the file of a record, which may be gone.
-    pub(crate) fn of_record(place: DiskPlace, error: io::Error) -> Self {
+    pub(crate) fn of_record(place: DiskPlace, error: io::Error) -> Self
+        // That it is gone is told exactly where the system says that there is no such file.
+        ensures { IsTrue (causes.tells_gone result) ↔ (error_kind error ≡ ErrorKind.NotFound) }
+    {
         match error.kind() {
             ErrorKind::NotFound => DiskRefusal::at(place, Trouble::Gone),
             _ => DiskRefusal::of(place, error),
@@ -137,7 +146,9 @@ impl DiskRefusal {
 
 impl Trouble {
     /// Whether a file is not there.
-    pub fn is_gone(&self) -> bool {
+    pub fn is_gone(&self) -> bool
+        ensures { result ≡ causes.is_gone self.now }
+    {
         match self {
             Trouble::Gone => true,
             _ => false,

@@ -1,18 +1,22 @@
 //! The folder as one run has it.
-ghost use Rattle.std.specs.Prelude.{◌≡◌, ℕ, ◌<◌, true, [], ◌∷◌, None, IsSome, IfOk, IfSome, OnOk, OnErr, string_bytes};
+ghost use Rattle.std.specs.Prelude.{◌≡◌, ℕ, ◌<◌, true, [], ◌∷◌, None, IsTrue, IsSome, IfOk, IfErr, IfSome, OnOk, OnErr, string_bytes};
 ghost use Rattle.sha2.specs.Sha256.{sha256};
+ghost use Rattle.fw_disk.specs.Causes.{tells_gone};
 ghost use Rattle.fw_disk.specs.FolderCalls.{calls_of, folder_flushed, AreOfRun};
-ghost use Rattle.fw_disk.specs.KnownFiles.{IsRunText};
+ghost use Rattle.fw_disk.specs.KnownFiles.{IsRunText, IsRecordRead, IsDigestFound, StandsByRun};
+ghost use Rattle.fw_disk.specs.Names.{HoldsNoRecord};
 ghost use Rattle.fw_disk.specs.PowerLoss.{Disk, AtEachMoment};
-ghost use Rattle.fw_disk.specs.RunLines.{digest_line, digests_of, digests_under, are_any, MayStand};
+ghost use Rattle.fw_disk.specs.RunLines.{digest_line, digests_of, digests_under, are_any, MayStand, StandByLines, HasLinesOf};
 ghost use Rattle.fw_disk.specs.Survival.{IsOld, IsOldOrNew, IsOldOrGone, IsOnDisk, IsGone, EndsIn, IsLineWritten, IsRunFileKnown, IsWithLine};
 ghost use Rattle.fw_disk.specs.Told.{HasDigestsNoted, IsClaimFor};
+ghost use Rattle.fw_disk.specs.declared.claim.Wanted.TheVariants.{Empty};
 
 use crate::cause::{DiskPlace, DiskRefusal, Trouble};
 use crate::contents::record_in;
-use crate::folder::{Folder, place_named};
+use crate::folder::Folder;
 use crate::heard::FOUND;
 use crate::lines::{Digest, RunLines, line_of, lines_in};
+use crate::names::place_named;
 use fw_heard::Heard;
 use sha2::{Digest as _, Sha256};
 use std::alloc::{AllocError, Global};
@@ -43,6 +47,7 @@ pub(crate) fn claim_folder<R: Files<File = File>>(
     wanted: Wanted,
 ) -> Result<Claim, DiskRefusal>
     ensures claim { IfOk result (IsClaimFor wanted) }
+    ensures empty { IfOk result (λ claim. wanted ≡ Empty → HoldsNoRecord R.Dir.Read.remaining) }
     ensures any_moment { (start : Disk) → AtEachMoment (IsOld start (calls_of folder.old.calls)) (calls_of folder.old.calls) (calls_of folder.new.calls) }
 {
     match wanted {
@@ -54,6 +59,7 @@ pub(crate) fn claim_folder<R: Files<File = File>>(
 // A claim on a folder that holds no record.
 fn claim_empty<R: Files<File = File>>(folder: &mut Folder<'_, R>) -> Result<Claim, DiskRefusal>
     ensures none { IfOk result (λ claim. (id : ℕ) → digests_of claim.lines.told id ≡ None) }
+    ensures empty { IfOk result (λ claim. HoldsNoRecord R.Dir.Read.remaining) }
     ensures of_run { AreOfRun (calls_of folder.old.calls) (calls_of folder.new.calls) }
 {
     let locked = locked_empty(folder)?;
@@ -78,15 +84,29 @@ pub(crate) fn claim_left<R: Files<File = File>>(
 {
     let locked = folder.lock()?;
     folder.flush()?;
+    let (lines, is_cut) = lines_left(folder, heard)?;
+    Ok(Claim {
+        locked,
+        lines,
+        is_cut,
+    })
+}
+
+// The lines of the records that stand in a folder, by those of its file `run`, and whether the last of these may be cut short.
+fn lines_left<R: Files>(
+    folder: &mut Folder<'_, R>,
+    heard: &mut Heard,
+) -> Result<(RunLines, bool), DiskRefusal>
+    requires { heard.old.notes ≡ [] }
+    ensures noted { IfOk result (λ left. HasDigestsNoted heard.new.notes left.0.told) }
+    ensures by_run { IfOk result (λ left. StandsByRun R.File.Read.remaining left.0.told) }
+    ensures any_moment { (start : Disk) → AtEachMoment (IsOld start (calls_of folder.old.calls)) (calls_of folder.old.calls) (calls_of folder.new.calls) }
+{
     let text = run_text(folder)?;
     let told = lines_in(folder.alloc(), &text)?;
     let lines = found(folder, &told, heard)?;
     see_run(folder, &text)?;
-    Ok(Claim {
-        locked,
-        lines,
-        is_cut: !matches!(text.last(), None | Some(b'\n')),
-    })
+    Ok((lines, !matches!(text.last(), None | Some(b'\n'))))
 }
 
 // The records that stand in a folder whose file `run` has these lines, each with its digest, which is noted.
@@ -97,6 +117,8 @@ fn found<R: Files>(
 ) -> Result<RunLines, DiskRefusal>
     requires { heard.old.notes ≡ [] }
     ensures noted { IfOk result (λ found. HasDigestsNoted heard.new.notes found.told) }
+    ensures stand { IfOk result (λ found. StandByLines lines.now.told found.told) }
+    ensures have { IfOk result (λ found. HasLinesOf lines.now.told found.told) }
     ensures any_moment { (start : Disk) → AtEachMoment (IsOld start (calls_of folder.old.calls)) (calls_of folder.old.calls) (calls_of folder.new.calls) }
 {
     let mut found = RunLines::new(folder.alloc());
@@ -118,6 +140,7 @@ fn add_found<R: Files>(
 ) -> Result<(), DiskRefusal>
     requires { HasDigestsNoted heard.old.notes found.old.told }
     ensures noted { OnOk result (HasDigestsNoted heard.new.notes found.new.told) }
+    ensures stand { OnOk result (StandByLines lines.now.told found.old.told → StandByLines lines.now.told found.new.told) }
     ensures any_moment { (start : Disk) → AtEachMoment (IsOld start (calls_of folder.old.calls)) (calls_of folder.old.calls) (calls_of folder.new.calls) }
 {
     let DiskPlace::Record(id) = place_named(folder.alloc(), name)? else {
@@ -140,7 +163,8 @@ fn digest_found<R: Files>(
     lines: &RunLines,
     id: u64,
 ) -> Result<Option<Digest>, DiskRefusal>
-    ensures { IfOk result (λ found. IfSome found (λ digest. MayStand lines.now.told id digest)) }
+    ensures may_stand { IfOk result (λ found. IfSome found (λ digest. MayStand lines.now.told id digest)) }
+    ensures found { IfOk result (λ found. IfSome found (λ digest. IsDigestFound R.File.Read.remaining lines.now.told id digest)) }
 {
     if let Some(digest) = lines.only(id) {
         return Ok(Some(digest));
@@ -156,9 +180,17 @@ fn digest_found<R: Files>(
 pub(crate) fn run_text<R: Files>(folder: &Folder<'_, R>) -> Result<Vec<u8>, DiskRefusal>
     ensures { IfOk result (λ text. IsRunText R.File.Read.remaining text.items) }
 {
-    match folder.read(DiskPlace::Run) {
-        Ok(text) => Ok(text),
-        Err(DiskRefusal::Failed(cause)) if cause.trouble.is_gone() => Ok(Vec::new(folder.alloc())),
+    none_if_gone(folder.alloc(), folder.read(DiskPlace::Run))
+}
+
+// The bytes that were read of a file; none, where that was refused since it is not there.
+fn none_if_gone(alloc: Global, read: Result<Vec<u8>, DiskRefusal>) -> Result<Vec<u8>, DiskRefusal>
+    ensures read { IfOk read (λ bytes. IfOk result (λ same. same.items ≡ bytes.items)) }
+    ensures refused { IfErr read (λ refusal. IfOk result (λ none. (none.items ≡ []) × IsTrue (tells_gone refusal))) }
+{
+    match read {
+        Ok(bytes) => Ok(bytes),
+        Err(DiskRefusal::Failed(cause)) if cause.trouble.is_gone() => Ok(Vec::new(alloc)),
         Err(refusal) => Err(refusal),
     }
 }
@@ -166,7 +198,9 @@ pub(crate) fn run_text<R: Files>(folder: &Folder<'_, R>) -> Result<Vec<u8>, Disk
 /// The folder, locked, where it holds no record.
 pub(crate) fn locked_empty<R: Files<File = File>>(
     folder: &Folder<'_, R>,
-) -> Result<File, DiskRefusal> {
+) -> Result<File, DiskRefusal>
+    ensures { IfOk result (λ locked. HoldsNoRecord R.Dir.Read.remaining) }
+{
     let locked = folder.lock()?;
     match folder.record_names()?.first() {
         None => Ok(locked),
@@ -332,7 +366,8 @@ impl Claim {
         folder: &Folder<'_, R>,
         id: u64,
     ) -> Result<Vec<u8>, DiskRefusal>
-        ensures { IfOk result (λ bytes. MayStand self.now.lines.told id (sha256 bytes.items)) }
+        ensures may_stand { IfOk result (λ bytes. MayStand self.now.lines.told id (sha256 bytes.items)) }
+        ensures read { IfOk result (λ bytes. IsRecordRead R.File.Read.remaining bytes.items) }
     {
         record_of(folder, &self.lines, id)
     }
@@ -374,7 +409,8 @@ pub(crate) fn record_of<R: Files>(
     lines: &RunLines,
     id: u64,
 ) -> Result<Vec<u8>, DiskRefusal>
-    ensures { IfOk result (λ bytes. MayStand lines.now.told id (sha256 bytes.items)) }
+    ensures may_stand { IfOk result (λ bytes. MayStand lines.now.told id (sha256 bytes.items)) }
+    ensures read { IfOk result (λ bytes. IsRecordRead R.File.Read.remaining bytes.items) }
 {
     let place = DiskPlace::Record(id);
     let contents = folder.read(place)?;

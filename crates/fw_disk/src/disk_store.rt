@@ -1,11 +1,12 @@
 //! The store.
-ghost use Rattle.std.specs.Prelude.{◌≡◌, [], None, Some, IsOk, IsErr, IsSome, IfOk, IfSome, OnOk, OnErr, is_some, option_map};
+ghost use Rattle.std.specs.Prelude.{◌≡◌, [], None, Some, IsOk, IsErr, IsSome, IfOk, IfSome, OnOk, OnErr, is_some, option_map, map as list_map, string_bytes};
 ghost use Rattle.std.specs.Option.{ForSome};
 ghost use Rattle.std.specs.FinMap as map;
-ghost use Rattle.fw_disk.specs.declared.claim.Wanted.TheVariants.{AsLeft};
+ghost use Rattle.fw_disk.specs.declared.claim.Wanted.TheVariants.{Empty as WantsEmpty, AsLeft};
 ghost use Rattle.fw_disk.specs.Contents.{contents_of};
 ghost use Rattle.fw_disk.specs.FolderCalls.{calls_of};
 ghost use Rattle.fw_disk.specs.KnownFiles.{TellRead};
+ghost use Rattle.fw_disk.specs.Names.{AreNamesRead, HoldsNoRecord};
 ghost use Rattle.fw_disk.specs.PowerLoss.{Disk, AtEachMoment};
 ghost use Rattle.fw_disk.specs.Survival.{IsOld, IsOldOrNew, IsOldOrGone, IsOnDisk, IsGone, Survive, StayWhole};
 ghost use Rattle.fw_disk.specs.Told.{told_by, last_given, HasDigestsOf};
@@ -15,9 +16,10 @@ use crate::DiskPlace;
 use crate::cause::{DiskCall, DiskCause, DiskRefusal, Fault};
 use crate::claim::{Claim, Wanted, claim_folder, claim_left, locked_empty, record_of, run_text};
 use crate::contents::contents_of;
-use crate::folder::{Folder, place_named};
+use crate::folder::Folder;
 use crate::heard::{GAVE, NOT_REMOVED, OPENED, PUT, REMOVED};
 use crate::lines::{RunLines, lines_in};
+use crate::names::place_named;
 use crate::start::{Empty, Start};
 use fw_heard::Heard;
 use fw_outside::{Failed, OutFault, Store};
@@ -160,7 +162,9 @@ impl<R: Files, S: Start> DiskStore<'_, R, S> {
     }
 
     /// The names of the files that no run may find in its folder, ascending by number: those of digits alone. Nothing is locked.
-    pub fn record_names(&self) -> Result<Vec<String>, DiskRefusal> {
+    pub fn record_names(&self) -> Result<Vec<String>, DiskRefusal>
+        ensures { IfOk result (λ names. AreNamesRead R.Dir.Read.remaining (list_map string_bytes names.items)) }
+    {
         self.folder.record_names()
     }
 
@@ -248,6 +252,8 @@ impl<R: Files<File = File>, S: Start> DiskStore<'_, R, S> {
     // Sees to it that this run has a claim on its folder: that which it has, or one that it makes now.
     fn see_claim(&mut self) -> Result<(), DiskRefusal>
         ensures claimed { OnOk result (IsSome self.new.claim) }
+        // A claim that is made now on a folder that is to hold no record: no name in it has digits alone.
+        ensures empty { OnOk result (self.old.claim ≡ None → self.old.wanted ≡ WantsEmpty → HoldsNoRecord R.Dir.Read.remaining) }
         ensures any_moment { (start : Disk) → AtEachMoment (IsOld start (calls_of self.old.folder.calls)) (calls_of self.old.folder.calls) (calls_of self.new.folder.calls) }
         ensures notes { self.new.heard.notes ≡ self.old.heard.notes }
         ensures faults { self.new.faults ≡ self.old.faults }

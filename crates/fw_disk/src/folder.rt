@@ -1,8 +1,9 @@
 //! The folder of a store, by calls of the system.
-ghost use Rattle.std.specs.Prelude.{◌≡◌, ◌⊎◌, ℕ, List, [], ◌∷◌, ◌++◌, true, false, is_ok, IfOk, IfSome, OnOk, OnErr, string_bytes};
+ghost use Rattle.std.specs.Prelude.{◌≡◌, ◌⊎◌, ℕ, List, [], ◌∷◌, ◌++◌, map, true, false, is_ok, IfOk, IfSome, OnOk, OnErr, string_bytes};
 ghost use Rattle.std.specs.Io.KnownBytes.{Appends};
 ghost use Rattle.fw_disk.specs.KnownFiles.{HasGrown, AreRead};
 ghost use Rattle.fw_disk.specs.FolderCalls.{calls_of, made, flushed, linked, renamed, removed, folder_flushed, is_run, IsRefused, IsNotRenamed, EndsInRemoval, IsLonger, AreOfRun, AreBesideRun};
+ghost use Rattle.fw_disk.specs.Names.{AreNamesRead};
 ghost use Rattle.fw_disk.specs.Paths.{path_of};
 ghost use Rattle.fw_disk.specs.declared.cause.DiskPlace.TheVariants.{Record, Beside};
 ghost use Rattle.fw_disk.specs.PowerLoss.{Disk, AtEachMoment, HasBytes};
@@ -10,6 +11,7 @@ ghost use Rattle.fw_disk.specs.Survival.{IsOld, IsOldOrNew, IsBesideFlushed, IsN
 
 use crate::call_notes::CallNotes;
 use crate::cause::{DiskPlace, DiskRefusal, Trouble};
+use crate::names::{names_of_digits, read_names};
 use std::alloc::{AllocError, Global};
 use std::fs::{self, File, Metadata, OpenFile, OpenOptions, TryLockError};
 use std::io::{self, ErrorKind, Read, Write};
@@ -307,26 +309,24 @@ impl<'a, R: Files> Folder<'a, R> {
         done
     }
 
-    /// The names of digits alone in the folder, ascending by number.
-    pub(crate) fn record_names(&self) -> Result<Vec<String>, DiskRefusal> {
+    // What the folder gives as it is read: its names, each with a zero byte behind it.
+    fn listed(&self) -> Result<Vec<u8>, DiskRefusal>
+        ensures { IfOk result (λ read. AreRead R.Dir.Read.remaining read.items) }
+    {
         let path = self.path(DiskPlace::Folder)?;
         let mut dir = self
             .files
             .open_dir(path.as_str())
             .map_err(|error| DiskRefusal::of(DiskPlace::Folder, error))?;
-        let mut names = Vec::new(self.alloc);
-        let mut some = [0u8; 4096];
-        for _ in 0..u64::MAX {
-            let count = dir
-                .read(&mut some)
-                .map_err(|error| DiskRefusal::of(DiskPlace::Folder, error))?;
-            if count == 0 {
-                break;
-            }
-            for name in some[..count].split(|byte| *byte == 0) {
-                add_if_digits(self.alloc, name, &mut names)?;
-            }
-        }
+        read_names(self.alloc, &mut dir).map_err(|error| DiskRefusal::of(DiskPlace::Folder, error))
+    }
+
+    /// The names of digits alone in the folder, ascending by number.
+    pub(crate) fn record_names(&self) -> Result<Vec<String>, DiskRefusal>
+        ensures { IfOk result (λ names. AreNamesRead R.Dir.Read.remaining (map string_bytes names.items)) }
+    {
+        let read = self.listed()?;
+        let mut names = names_of_digits(self.alloc, &read)?;
         names.sort_unstable_by(|x, y| x.len().cmp(&y.len()).then(x.cmp(y)));
         Ok(names)
     }
@@ -384,27 +384,4 @@ fn read_whole<F: Read>(alloc: Global, file: &mut F) -> io::Result<Vec<u8>>
 // Whether two files are one.
 fn is_same_node(x: &Metadata, y: &Metadata) -> bool {
     x.dev() == y.dev() && x.ino() == y.ino()
-}
-
-// Adds a name that has digits alone.
-fn add_if_digits(alloc: Global, name: &[u8], names: &mut Vec<String>) -> Result<(), AllocError> {
-    if name.is_empty() || !name.iter().all(|byte| byte.is_ascii_digit()) {
-        return Ok(());
-    }
-    if let Ok(name) = str::from_utf8(name) {
-        names.push(String::from_str(alloc, name)?)?;
-    }
-    Ok(())
-}
-
-/// The place that a name of digits has, which is the folder where no id has it.
-pub(crate) fn place_named(alloc: Global, name: &str) -> Result<DiskPlace, AllocError> {
-    let Ok(id) = name.parse::<u64>() else {
-        return Ok(DiskPlace::Folder);
-    };
-    if format!(in alloc; "{id}")?.as_str() == name {
-        Ok(DiskPlace::Record(id))
-    } else {
-        Ok(DiskPlace::Folder)
-    }
 }

@@ -10,6 +10,7 @@ mod disk_store;
 mod folder;
 mod heard;
 mod lines;
+mod names;
 mod start;
 
 pub use cause::{DiskCall, DiskCause, DiskPlace, DiskRefusal, Fault, Trouble};

@@ -1,11 +1,11 @@
 //! The lines of the file `run`: of each record its id and its digest.
 ghost use Rattle.std.specs.Fmt.{decimal};
 ghost use Rattle.hex.specs.Hex.{encode_lower};
-ghost use Rattle.std.specs.Prelude.{◌≡◌, ◌↔◌, ℕ, ◌<◌, ◌≤◌, ◌^◌, List, [], ◌∷◌, ◌++◌, length, reverse, true, Some, None, IsTrue, IsSome, IfNone, IfOk, IfSome, OnOk, OnErr, unwrap_or, string_bytes};
+ghost use Rattle.std.specs.Prelude.{◌≡◌, ◌↔◌, ℕ, ◌<◌, ◌≤◌, ◌^◌, List, [], ◌∷◌, ◌++◌, length, reverse, true, Some, None, IsTrue, IsSome, IfOk, IfSome, OnOk, OnErr, unwrap_or, string_bytes};
 ghost use Rattle.fw_disk.specs.RunLines.{digest_line, line_words, IsDigest, IsRecordLine, AreEntries, whole_lines, line_told, told_then, digests_told, if_any, only_of, lines_under, text_of};
-ghost use Rattle.fw_disk.specs.RunLines.{digests_of, digests_under, are_any, MayStand};
+ghost use Rattle.fw_disk.specs.RunLines.{digests_of, digests_under, are_any, MayStand, HasLinesOf};
 
-use crate::cuts::split_at_byte;
+use crate::cuts::{first_piece, split_at_byte};
 use hex::FromHex;
 use std::alloc::{AllocError, Global};
 use std::collections::BTreeMap;
@@ -91,7 +91,8 @@ impl RunLines {
 
     /// Gives a line to each id that has one in others and none here. No record stands under it.
     pub(crate) fn add_gone(&mut self, others: &RunLines) -> Result<(), AllocError>
-        ensures { OnOk result ((id : ℕ) → digests_under self.new.told id ≡ digests_under self.old.told id) }
+        ensures same { OnOk result ((id : ℕ) → digests_under self.new.told id ≡ digests_under self.old.told id) }
+        ensures have { OnOk result (HasLinesOf others.now.told self.new.told) }
     {
         for id in others.told.keys() {
             self.add_line(*id)?;
@@ -101,7 +102,9 @@ impl RunLines {
 
     // Gives a line to an id that has none.
     fn add_line(&mut self, id: u64) -> Result<(), AllocError>
-        ensures { OnOk result ((other : ℕ) → digests_under self.new.told other ≡ digests_under self.old.told other) }
+        ensures same { OnOk result ((other : ℕ) → digests_under self.new.told other ≡ digests_under self.old.told other) }
+        ensures there { OnOk result (IsSome (digests_of self.new.told id)) }
+        ensures stay { OnOk result (HasLinesOf self.old.told self.new.told) }
     {
         if self.has(id) {
             return Ok(());
@@ -224,21 +227,11 @@ pub(crate) fn lines_in(alloc: Global, text: &[u8]) -> Result<RunLines, AllocErro
 {
     let mut lines = RunLines::new(alloc);
     let mut rest = text;
-    while let Some((line, later)) = first_line(rest) {
+    while let Some((line, later)) = first_piece(rest, b'\n') {
         add_told(&mut lines, line)?;
         rest = later;
     }
     Ok(lines)
-}
-
-// The first line of a text, without its line feed, and what stands behind it; none, where no line feed is in it.
-fn first_line(text: &[u8]) -> Option<(&[u8], &[u8])>
-    ensures none { IfNone result (whole_lines text.now ≡ []) }
-    ensures first { IfSome result (λ parts. whole_lines text.now ≡ parts.0.now ∷ whole_lines parts.1.now) }
-    ensures shorter { IfSome result (λ parts. length parts.1.now < length text.now) }
-{
-    let (line, later) = split_at_byte(text, b'\n')?;
-    Some((line, later))
 }
 
 // Adds what a line tells; nothing, where it is no line of a record.
@@ -304,8 +297,8 @@ fn text_in(bytes: &[u8]) -> Option<&str>
     }
 }
 
-// The number that a text spells.
-fn number_in(text: &str) -> Option<u64>
+/// The number that a text spells.
+pub(crate) fn number_in(text: &str) -> Option<u64>
     ensures ranges { IfSome result (λ id. id < 2 ^ 64) }
     ensures found { (id : ℕ) → id < 2 ^ 64 → text.now ≡ decimal id → result ≡ Some id }
 {

@@ -2,48 +2,26 @@ use Rattle.std.proofs.Common.{is_ok, subst}
 use Rattle.fw_disk.specs.FolderCalls.{calls_of}
 use Rattle.fw_disk.specs.Survival.{IsOld}
 use Rattle.fw_disk.proofs.Moments.{last}
-use Rattle.fw_disk.proofs.PutMoments.{then_keeps, run_keeps, flush_keeps}
+use Rattle.fw_disk.proofs.PutMoments.{then_keeps, flush_keeps}
 use Rattle.fw_disk.proofs.claim.claim_left.Goals as goal
 
 pub returns-in_err-flush-clause-any_moment : goal.returns-in_err-flush-clause-any_moment
 returns-in_err-flush-clause-any_moment g c start = flush_keeps start (calls_of c.args.folder.now.calls) (calls_of c.flush.new.self.calls) (is_ok c.flush.result) c.flush.ensures
 
-pub returns-in_err-text-clause-any_moment : goal.returns-in_err-text-clause-any_moment
-returns-in_err-text-clause-any_moment g c start = flush_keeps start (calls_of c.args.folder.now.calls) (calls_of c.flush.new.self.calls) (is_ok c.flush.result) c.flush.ensures
-
-pub returns-in_err-told-clause-any_moment : goal.returns-in_err-told-clause-any_moment
-returns-in_err-told-clause-any_moment g c start = flush_keeps start (calls_of c.args.folder.now.calls) (calls_of c.flush.new.self.calls) (is_ok c.flush.result) c.flush.ensures
-
 pub returns-in_err-lines-clause-any_moment : goal.returns-in_err-lines-clause-any_moment
 returns-in_err-lines-clause-any_moment g c start =
     let old = calls_of c.args.folder.now.calls in
     let flushed = calls_of c.flush.new.self.calls in
-    then_keeps start old flushed (calls_of c.found.new.folder.calls) (flush_keeps start old flushed (is_ok c.flush.result) c.flush.ensures) (c.found.ensures.any_moment start)
-
-pub returns-in_err-see_run-clause-any_moment : goal.returns-in_err-see_run-clause-any_moment
-returns-in_err-see_run-clause-any_moment g c start =
-    let old = calls_of c.args.folder.now.calls in
-    let flushed = calls_of c.flush.new.self.calls in
-    let found = calls_of c.found.new.folder.calls in
-    let seen = calls_of c.see_run.new.folder.calls in
-    then_keeps start old found seen
-    (then_keeps start old flushed found (flush_keeps start old flushed (is_ok c.flush.result) c.flush.ensures) (c.found.ensures.any_moment start))
-    (run_keeps start found seen c.see_run.ensures)
+    then_keeps start old flushed (calls_of c.lines_left.new.folder.calls) (flush_keeps start old flushed (is_ok c.flush.result) c.flush.ensures) (c.lines_left.ensures.any_moment start)
 
 pub returns-clause-any_moment : goal.returns-clause-any_moment
 returns-clause-any_moment g c start =
     let old = calls_of c.args.folder.now.calls in
     let flushed = calls_of c.flush.new.self.calls in
-    let found = calls_of c.found.new.folder.calls in
-    let seen = calls_of c.see_run.new.folder.calls in
-    then_keeps start old found seen
-    (then_keeps start old flushed found (flush_keeps start old flushed (is_ok c.flush.result) c.flush.ensures) (c.found.ensures.any_moment start))
-    (run_keeps start found seen c.see_run.ensures)
+    then_keeps start old flushed (calls_of c.lines_left.new.folder.calls) (flush_keeps start old flushed (is_ok c.flush.result) c.flush.ensures) (c.lines_left.ensures.any_moment start)
 
 pub returns-clause-flushed : goal.returns-clause-flushed
 returns-clause-flushed g c start =
     let flushed = calls_of c.flush.new.self.calls in
-    let found = calls_of c.found.new.folder.calls in
-    let seen = calls_of c.see_run.new.folder.calls in
-    subst (λ calls. IsOld start calls seen) c.in_ok-flush.ensures
-    (last (IsOld start flushed) flushed seen (then_keeps start flushed found seen (c.found.ensures.any_moment start) (run_keeps start found seen c.see_run.ensures)))
+    let left = calls_of c.lines_left.new.folder.calls in
+    subst (λ calls. IsOld start calls left) c.in_ok-flush.ensures (last (IsOld start flushed) flushed left (c.lines_left.ensures.any_moment start))

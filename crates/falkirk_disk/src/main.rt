@@ -4,8 +4,6 @@
 //! terminal the causes of the store's faults are told behind the line of the status.
 #![tactic(auto)]
 
-mod live;
-
 ghost use Rattle.std.specs.Prelude.{◌≡◌};
 ghost use Rattle.std.specs.FinMap as map;
 ghost use Rattle.std.specs.Option.{ForSome};
@@ -17,13 +15,14 @@ use fw_disk::{DiskCause, DiskStore};
 use fw_flow::Flow;
 use fw_flow_text::FLOW_LIMIT;
 use fw_lines::INPUTS_LIMIT;
-use fw_live::is_live;
+use fw_live::{StreamLines, is_live, name_of_text};
 use fw_outside::{Sink, Store};
 use fw_pace::printed;
-use fw_run::{Status, falkirk, tell};
+use fw_relive::falkirk_lasting;
+use fw_relive::laws::empty_stores_may_begin;
+use fw_run::{Status, falkirk};
 use fw_show::{ShowFault, show};
 use fw_telling::{ReadFolder, TellingSink, read_texts};
-use live::answer_lines;
 use std::alloc::{AllocError, Global};
 use std::io::{ErrorKind, IsTerminal};
 use std::process::ExitCode;
@@ -178,14 +177,31 @@ fn run_live<'a, N: Sink>(
         words,
         is_person: rt.stderr().is_terminal(),
     };
+    let folder = match name_of_text(words) {
+        Some(name) => ReadFolder::read(alloc, rt, &[name], INPUTS_LIMIT),
+        None => ReadFolder::read(alloc, rt, &[], INPUTS_LIMIT),
+    };
+    let Ok(mut folder) = folder else {
+        return out_of_memory(notes);
+    };
+    let mut lines = StreamLines::new(rt.stdin().lock());
     let mut out = AckSink::new(alloc, TellingSink::new(rt.stdout()));
-    let status = tell(alloc, answer_lines(rt, words, store, &mut out), notes);
+    empty_stores_may_begin();
+    let lasted = falkirk_lasting(
+        alloc,
+        words,
+        &mut folder,
+        store,
+        &mut lines,
+        &mut out,
+        notes,
+    );
     let ended = Ended {
-        number: status.number(),
-        refusal: status.refusal(),
+        number: lasted.status.number(),
+        refusal: lasted.status.refusal(),
     };
     tell_after(alloc, rt, call, ended, &out, notes);
-    status
+    lasted.status
 }
 
 // What the top call answers to the words.

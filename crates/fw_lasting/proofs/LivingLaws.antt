@@ -1,8 +1,9 @@
 -- A session that lasts as one over which lines are answered: it is at a story where it is under way at it, whatever its store holds.
 use Rattle.std.proofs.Common.{◌≡◌, ◌⊎◌, ◌↔◌, ℕ, ◌+◌, ◌-◌, ◌≤◌, ◌^◌, Bool, false, true, Option, Result, Ok, Err, refl, sym, ap, subst, ◌∙◌, inl, inr}
-use Rattle.std.specs.Prelude.{IfOk, IsErrOf, OnOk}
+use Rattle.std.specs.Option.{ForSome}
+use Rattle.std.specs.Prelude.{IfOk, IsErrOf, OnErr, OnOk}
 use Rattle.fw_engine.specs.declared.engine.Engine.{Engine}
-use Rattle.fw_engine.specs.Engine.{flow_of}
+use Rattle.fw_engine.specs.Engine.{flow_of, keep_of}
 use Rattle.fw_flow.specs.declared.step.Step.{Step}
 use Rattle.fw_flow.specs.declared.step.Step.TheVariants.{Collect}
 use Rattle.fw_flow.specs.Dataflow.{Dataflow}
@@ -16,7 +17,9 @@ use Rattle.fw_running.specs.Steps.{outcome_of}
 use Rattle.fw_session.specs.declared.arrivals.Arrivals.{Arrivals}
 use Rattle.fw_session.specs.Session.{came_in, is_open_in, GoesOnTo, IsLeftAt, StepGoesOn}
 use Rattle.fw_session.specs.Story.{Story, opening}
-use Rattle.fw_lasting.specs.UnderWay.{IsUnderWay}
+use Rattle.fw_lasting.specs.KeptStory.{HoldsStory}
+use Rattle.fw_lasting.specs.Starting.{HoldsSome}
+use Rattle.fw_lasting.specs.UnderWay.{IsUnderWay, KeepsEither, StillHolds}
 
 -- it is at a story
 abbrev IsAtOne : (Story → Story → Type 0) → Story → Type 0
@@ -91,3 +94,48 @@ pub kept-one : {E : Type 0} (Q : Story → Story → Type 0) (S : Type 0) (story
     → OnOk result (Q story story × S) → OnOk result (IsAtOne Q story × (Q story story × S))
 kept-one Q S story (Ok done) q = ((story, q.0), q)
 kept-one Q S story (Err fault) q = tt
+
+-- ---- what the store holds, whatever was answered
+
+pub some-under : (digests : Digests) (engine : Engine) (arrivals : Arrivals) (records : Option Records) (turn : ℕ) (kept now : Story)
+    → IsUnderWay digests engine arrivals records turn kept now → ForSome records (HoldsSome (flow_of engine) digests)
+some-under digests engine arrivals records turn kept now u = λ held is. (kept, turn, (keep_of engine).next, u.holds held is)
+
+some-same : (flow flow2 : Dataflow) (digests digests2 : Digests) (records : Option Records) → flow2 ≡ flow → digests2 ≡ digests
+    → ForSome records (HoldsSome flow digests) → ForSome records (HoldsSome flow2 digests2)
+some-same flow flow2 digests digests2 records f d some =
+    subst (λ x. ForSome records (HoldsSome x digests2)) (sym f) (subst (λ x. ForSome records (HoldsSome flow x)) (sym d) some)
+
+some-either : (flow : Dataflow) (digests : Digests) (records : Option Records) (kept now : Story) → KeepsEither flow digests records kept now
+    → ForSome records (HoldsSome flow digests)
+some-either flow digests records kept now k = λ held is. one held (k held is)
+  where
+    one : (held : Records)
+        → (turn : ℕ) × (next : ℕ) × (HoldsStory flow digests held kept turn next ⊎ HoldsStory flow digests held now turn next)
+        → HoldsSome flow digests held
+    one held (turn, next, inl h) = (kept, turn, next, h)
+    one held (turn, next, inr h) = (now, turn, next, h)
+
+pub some-still : (flow flow2 : Dataflow) (digests digests2 : Digests) (records : Option Records) (kept : Story) → flow2 ≡ flow → digests2 ≡ digests
+    → StillHolds flow digests records kept → ForSome records (HoldsSome flow2 digests2)
+some-still flow flow2 digests digests2 records kept f d k =
+    some-same flow flow2 digests digests2 records f d (λ held is. (kept, (k held is).0, (k held is).1, (k held is).2))
+
+-- behind a call that leads from what is kept to one story where all went well, and to one of two else
+pub some-left : {T E : Type 0} (result : Result T E) (flow : Dataflow) (digests : Digests) (engine : Engine) (digests2 : Digests) (arrivals : Arrivals)
+    (records : Option Records) (turn : ℕ) (one two kept now : Story) → flow_of engine ≡ flow → digests2 ≡ digests
+    → IfOk result (λ x. IsUnderWay digests2 engine arrivals records turn one two) → OnErr result (KeepsEither flow digests records kept now)
+    → ForSome records (HoldsSome (flow_of engine) digests2)
+some-left (Ok x) flow digests engine digests2 arrivals records turn one two kept now f d ok err =
+    some-under digests2 engine arrivals records turn one two ok
+some-left (Err e) flow digests engine digests2 arrivals records turn one two kept now f d ok err =
+    some-same flow (flow_of engine) digests digests2 records f d (some-either flow digests records kept now err)
+
+pub some-kept : {E : Type 0} (result : Result (Unit {0}) E) (flow : Dataflow) (digests : Digests) (engine : Engine) (digests2 : Digests)
+    (arrivals : Arrivals) (records : Option Records) (turn : ℕ) (kept now : Story) (Says : Type 0) → flow_of engine ≡ flow → digests2 ≡ digests
+    → OnOk result (IsUnderWay digests2 engine arrivals records turn now now × Says) → OnErr result (KeepsEither flow digests records kept now)
+    → ForSome records (HoldsSome (flow_of engine) digests2)
+some-kept (Ok x) flow digests engine digests2 arrivals records turn kept now Says f d ok err =
+    some-under digests2 engine arrivals records turn now now ok.0
+some-kept (Err e) flow digests engine digests2 arrivals records turn kept now Says f d ok err =
+    some-same flow (flow_of engine) digests digests2 records f d (some-either flow digests records kept now err)

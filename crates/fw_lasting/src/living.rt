@@ -10,10 +10,12 @@ use fw_running::{EngineFault, Stepped};
 
 /// It keeps what was done: a start over its store goes on from there.
 impl<K: Store + Drop> Living for LastingSession<K> {
-    ghost use Rattle.std.specs.Prelude.{true};
+    ghost use Rattle.std.specs.Prelude.{true, Some};
+    ghost use Rattle.std.specs.Option.{ForSome};
     ghost use Rattle.fw_engine.specs.Engine.{flow_of};
     ghost use Rattle.fw_session.specs.Story.{Story};
     ghost use Rattle.fw_lasting.specs.UnderWay.{IsUnderWay, SaysLast};
+    ghost use Rattle.fw_lasting.specs.Starting.{HoldsSome};
 
     ghost lasts = { true };
 
@@ -22,6 +24,11 @@ impl<K: Store + Drop> Living for LastingSession<K> {
     ghost records = { λ session. (K.view session.store).records };
 
     ghost fault_count = { λ session. (K.view session.store).faults };
+
+    ghost digests_of = { λ session. Some session.digests };
+
+    // It holds a story.
+    ghost may_restart = { λ session. ForSome (K.view session.store).records (HoldsSome (flow_of session.engine.engine) session.digests) };
 
     ghost at = { λ session story. (kept : Story) × IsUnderWay session.digests session.engine.engine session.arrivals
         (K.view session.store).records session.turn kept story };

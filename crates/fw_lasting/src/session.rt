@@ -68,6 +68,7 @@ impl<K: Store + Drop> LastingSession<K> {
             (λ now. (kept : Story) × IsUnderWay self.old.digests self.old.engine.engine self.old.arrivals (K.view self.old.store).records self.old.turn kept now)
             (K.view self.old.store).faults (K.view self.new.store).faults }
         ensures told_before { IsSome (K.view self.new.store).records → IsSome (K.view self.old.store).records }
+        ensures digests { self.new.digests ≡ self.old.digests }
     {
         let epoch = match self.arrivals.next_epoch(source) {
             Ok(epoch) => epoch,
@@ -103,6 +104,7 @@ impl<K: Store + Drop> LastingSession<K> {
             (λ now. (kept : Story) × IsUnderWay self.old.digests self.old.engine.engine self.old.arrivals (K.view self.old.store).records self.old.turn kept now)
             (K.view self.old.store).faults (K.view self.new.store).faults }
         ensures told_before { IsSome (K.view self.new.store).records → IsSome (K.view self.old.store).records }
+        ensures digests { self.new.digests ≡ self.old.digests }
     {
         if !self.arrivals.is_open(source) {
             return Err(LifeFault::NotFed);
@@ -137,6 +139,7 @@ impl<K: Store + Drop> LastingSession<K> {
         ensures flow { flow_of self.new.engine.engine ≡ flow_of self.old.engine.engine }
         ensures faults { (K.view self.new.store).faults ≡ faults_after_step result (K.view self.old.store).faults }
         ensures told_before { IsSome (K.view self.new.store).records → IsSome (K.view self.old.store).records }
+        ensures digests { self.new.digests ≡ self.old.digests }
     {
         if !has_room(&self.engine.engine) {
             return Err(EngineFault::NoMemory);
@@ -167,6 +170,7 @@ impl<K: Store + Drop> LastingSession<K> {
         ensures flow { flow_of self.new.engine.engine ≡ flow_of self.old.engine.engine }
         ensures faults { (K.view self.new.store).faults ≡ faults_after_step result (K.view self.old.store).faults }
         ensures told_before { IsSome (K.view self.new.store).records → IsSome (K.view self.old.store).records }
+        ensures digests { self.new.digests ≡ self.old.digests }
     {
         if !has_room(&self.engine.engine) {
             return Err(EngineFault::NoMemory);
@@ -193,6 +197,7 @@ impl<K: Store + Drop> LastingSession<K> {
         ensures faults { (K.view self.new.store).faults ≡ life_faults_after result (K.view self.old.store).faults }
         ensures not_fed { IsErrOf result LifeFault.NotFed → ⊥ }
         ensures told_before { IsSome (K.view self.new.store).records → IsSome (K.view self.old.store).records }
+        ensures digests { self.new.digests ≡ self.old.digests }
     {
         let root = next_root(
             self.alloc,
@@ -209,6 +214,13 @@ impl<K: Store + Drop> LastingSession<K> {
             Ok(()) => Ok(()),
             Err(fault) => Err(of_sweep(fault)),
         }
+    }
+
+    /// Its store, which it gives back.
+    pub fn into_store(self) -> K
+        ensures { result ≡ self.store }
+    {
+        self.store
     }
 
     /// The engine, to be looked at.

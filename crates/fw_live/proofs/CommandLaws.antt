@@ -35,7 +35,7 @@ use Rattle.fw_live.specs.Asked.{Asked, LineIn, asked_for}
 use Rattle.fw_live.specs.Call.{AnswersAll, AnswersPart, CountsReads, CountsSession, EndsBefore, EndsInLastLine, EndsQuiet, EndsUnbegun, EndsWhole, FlowAnswers, HasFlowSo, IsAnswersText, IsLineCutAt, IsLiveText, GoWellOver, IsPutAt, KeepsFlow, LiveAnswers, LivesGoWell, NeverFail, TellAlways, ReadFaults, StaysQuiet, status_by, status_of, stopped_status, unread_status}
 use Rattle.fw_live.specs.Faults.{TellsFaults}
 use Rattle.fw_live.specs.Life.{answers_text, counts_behind, counts_line, kept_behind, no_counts}
-use Rattle.fw_live.specs.Relies.{IsAskedReliedOn, IsItemReliedOn, IsReliedOn}
+use Rattle.fw_live.specs.Relies.{IsAskedReliedOn, IsItemReliedOn, IsMaybeReliedOn, IsReliedOn}
 use Rattle.fw_live.specs.Serving.{AreLinesReliedOn, CountsLines, HasAnsweredAll, HasServed, IsPutBefore, Serves, ServesPart, LivePoint}
 use Rattle.fw_live.specs.Words.{LiveCommand}
 use Rattle.fw_live.proofs.FaultsLaws.{never-told, none-damaged, none-failed, same≤}
@@ -111,11 +111,14 @@ relied-item (Some held) (One step) told = relied-step held step
 relied-item (Some held) (Auto most) told = tt
 relied-item None item told = absurd (false≢true told)
 
+pub relied-some : (records : Option Records) (item : Option Item) → IsSome records → IsMaybeReliedOn records item
+relied-some records item told = λ x e. relied-item records x told
+
 relied-heard : (records : Option Records) (h : Result Asked LineRule) → IsSome records → IsAskedReliedOn records h
 relied-heard records (Ok asked) told = λ item e. relied-item records item told
 relied-heard records (Err rule) told = tt
 
-relied-told : (records : Option Records) (flow : Dataflow) (lines : List LineIn) → IsSome records → AreLinesReliedOn records flow lines
+pub relied-told : (records : Option Records) (flow : Dataflow) (lines : List LineIn) → IsSome records → AreLinesReliedOn records flow lines
 relied-told records flow [] told = tt
 relied-told records flow (line ∷ lines) told = (relied-heard records (asked_for flow line) told, relied-told records flow lines told)
 
@@ -126,7 +129,7 @@ no-fault None faults none e = absurd (done (sym (ap (status_of None) none) ∙ e
     done : status_of None 0 ≡ StoreFault → ⊥
     done e = absurd cc
 
-no-damage : (damaged : Option ℕ) (faults id : ℕ) → damaged ≡ None → status_of damaged faults ≢ Damaged id
+pub no-damage : (damaged : Option ℕ) (faults id : ℕ) → damaged ≡ None → status_of damaged faults ≢ Damaged id
 no-damage damaged faults id none e = absurd (neither (faults == 0) (sym (ap (λ d. status_of d faults) none) ∙ e))
   where
     neither : (b : Bool) → (if b then Done else StoreFault) ≡ Damaged id → ⊥
@@ -204,7 +207,7 @@ in-last-line (Damaged id) line mid last c = absurd c
 in-last-line (DamagedRoot id) line mid last c = absurd c
 in-last-line ForeignRoot line mid last c = absurd c
 
-same-lines : (lines : List LineIn) (given gives : Option (List LineIn)) → gives ≡ option_map (λ earlier. earlier ++ lines) given
+pub same-lines : (lines : List LineIn) (given gives : Option (List LineIn)) → gives ≡ option_map (λ earlier. earlier ++ lines) given
     → gives ≡ option_map (λ earlier. earlier ++ (lines ++ [])) given
 same-lines lines given gives e = e ∙ ap (λ all. option_map (λ earlier. earlier ++ all) given) (sym (append-nil lines))
 

@@ -303,3 +303,12 @@ relied-item before after (Auto most) told r = tt
 pub relied-maybe : (before after : Option Records) (item : Option Item) → (IsSome after → IsSome before) → IsMaybeReliedOn after item
     → IsMaybeReliedOn before item
 relied-maybe before after item told r = λ x e. relied-item before after x told (r x e)
+
+-- where steps end that memory was not refused for, the session is at a story
+pub ends-at : {T R : Type 0} (flow : Dataflow) (Goes : Ending → List Outcome → Story → Type 0) (before after : Printed) (result : Result T EngineFault)
+    (At : Story → Type 0) → (R → EndsSo (λ ending. GoesOnPrinting flow (Goes ending) before after At) result) → R
+    → (IsErrOf result fault.NoMemory → ⊥) → (story : Story) × At story
+ends-at flow Goes before after (Ok x) At ends r n = ((ends r).next, (ends r).at)
+ends-at flow Goes before after (Err fault.StoreFault) At ends r n = ((ends r).next, (ends r).at)
+ends-at flow Goes before after (Err (fault.Damaged id)) At ends r n = ((ends r).next, (ends r).at)
+ends-at flow Goes before after (Err fault.NoMemory) At ends r n = absurd (n refl)

@@ -87,8 +87,8 @@ fn run<F: Folder, K: Store + Drop, L: LineSource, O: Sink>(
     }
 }
 
-// How a call ends whose flow was not read.
-fn unread(fault: JobFault) -> Status
+/// How a call ends whose flow was not read.
+pub fn unread(fault: JobFault) -> Status
     ensures { result ≡ unread_status fault }
 {
     match fault {
@@ -138,8 +138,8 @@ fn answer_all<K: Store + Drop, L: LineSource, O: Sink>(
     }
 }
 
-// How a call ends that was stopped.
-fn stopped(fault: ServeFault) -> Status
+/// How a call ends that was stopped.
+pub fn stopped(fault: ServeFault) -> Status
     ensures { result ≡ stopped_status fault }
 {
     match fault {
@@ -150,8 +150,8 @@ fn stopped(fault: ServeFault) -> Status
     }
 }
 
-// Writes the last line, and tells whether a record was damaged or the store failed.
-fn end<O: Sink>(alloc: Global, counts: LineCounts, out: &mut O) -> Status
+/// Writes the last line, and tells whether a record was damaged or the store failed.
+pub fn end<O: Sink>(alloc: Global, counts: LineCounts, out: &mut O) -> Status
     ensures whole { EndsWhole result → (result ≡ status_by counts) × IsWritten (life.counts_line counts) (O.view out.old) (O.view out.new) }
     ensures part { EndsBefore result → IsLineCutAt result (life.counts_line counts) (O.view out.old) (O.view out.new) }
     ensures begun { EndsUnbegun result → ⊥ }

@@ -19,7 +19,7 @@ mod turn;
 mod words;
 
 pub use asked::LINE_LIMIT;
-pub use command::{falkirk_live, status_of};
+pub use command::{end, falkirk_live, status_of, stopped, unread};
 pub use counts::LineCounts;
 pub use fault::ServeFault;
 pub use line_source::{LineSource, NextLine};

@@ -84,6 +84,9 @@ impl<S: Living + Drop> Live<S> {
         ensures flow { flow_of (S.engine_of self.new.session) ≡ flow_of (S.engine_of self.old.session) }
         ensures rests { self.new.rests ≡ self.old.rests }
         ensures told_before { IsSome (S.records self.new.session) → IsSome (S.records self.old.session) }
+        ensures texts { S.digests_of self.new.session ≡ S.digests_of self.old.session }
+        ensures left { (story : Story) → S.at self.old.session story → S.may_restart self.old.session → IsSome (S.records self.new.session)
+            → S.may_restart self.new.session }
         ensures faults { FaultsBy result self.old.counts.faults self.new.counts.faults (S.fault_count self.old.session) (S.fault_count self.new.session) }
         ensures lasts { S.lasts ≡ false → IsErrOf result LifeFault.StoreFault → ⊥ }
     {
@@ -109,6 +112,9 @@ impl<S: Living + Drop> Live<S> {
         ensures flow { flow_of (S.engine_of self.new.session) ≡ flow_of (S.engine_of self.old.session) }
         ensures rests { self.new.rests ≡ self.old.rests }
         ensures told_before { IsSome (S.records self.new.session) → IsSome (S.records self.old.session) }
+        ensures texts { S.digests_of self.new.session ≡ S.digests_of self.old.session }
+        ensures left { (story : Story) → S.at self.old.session story → S.may_restart self.old.session → IsSome (S.records self.new.session)
+            → S.may_restart self.new.session }
         ensures faults { FaultsBy result self.old.counts.faults self.new.counts.faults (S.fault_count self.old.session) (S.fault_count self.new.session) }
         ensures lasts { S.lasts ≡ false → IsErrOf result LifeFault.StoreFault → ⊥ }
     {
@@ -129,6 +135,9 @@ impl<S: Living + Drop> Live<S> {
         ensures flow { flow_of (S.engine_of self.new.session) ≡ flow_of (S.engine_of self.old.session) }
         ensures rests { self.new.rests ≡ self.old.rests }
         ensures told_before { IsSome (S.records self.new.session) → IsSome (S.records self.old.session) }
+        ensures texts { S.digests_of self.new.session ≡ S.digests_of self.old.session }
+        ensures left { (story : Story) → S.at self.old.session story → S.may_restart self.old.session → IsSome (S.records self.new.session)
+            → S.may_restart self.new.session }
         ensures faults { FaultsBy result self.old.counts.faults self.new.counts.faults (S.fault_count self.old.session) (S.fault_count self.new.session) }
         ensures lasts { S.lasts ≡ false → IsErrOf result LifeFault.StoreFault → ⊥ }
     {
@@ -154,6 +163,13 @@ impl<S: Living + Drop> Live<S> {
         ensures { result.now ≡ self.now.session }
     {
         &self.session
+    }
+
+    /// The session, where no line is answered any more.
+    pub fn into_session(self) -> S
+        ensures { result ≡ self.session }
+    {
+        self.session
     }
 
     /// What was counted of its lines.

@@ -1,5 +1,5 @@
 //! The lines that come in are answered.
-ghost use Rattle.std.specs.Prelude.{◌≡◌, ◌⊎◌, ◌≤◌, List, Option, Ok, Some, None, false, true, IsErr, IsErrOf, IsSome, IfErr, IfOk, IfSome, OnOk};
+ghost use Rattle.std.specs.Prelude.{◌≡◌, ◌⊎◌, ◌≤◌, ℕ, List, Option, Ok, Some, None, false, true, IsErr, IsErrOf, IsSome, IfErr, IfOk, IfSome, OnOk};
 ghost use Rattle.fw_command.specs.Writing.{IsWritten};
 ghost use Rattle.fw_engine.specs.Engine.{flow_of};
 ghost use Rattle.fw_run.specs.declared.status.Status.TheVariants as status;
@@ -33,6 +33,9 @@ pub fn serve<S: Living + Drop, L: LineSource, O: Sink>(
     ensures flow { flow_of (S.engine_of live.new.session) ≡ flow_of (S.engine_of live.old.session) }
     ensures rests { live.new.rests ≡ live.old.rests }
     ensures told_before { IsSome (S.records live.new.session) → IsSome (S.records live.old.session) }
+    ensures texts { S.digests_of live.new.session ≡ S.digests_of live.old.session }
+    ensures left { (story : Story) (kept : List ℕ) → S.at live.old.session story → S.keeps live.old.session story kept
+        → S.may_restart live.old.session → IsSome (S.records live.new.session) → S.may_restart live.new.session }
     // Each line that came in was answered, in order, and all answers were written.
     ensures served { OnOk result (Serves live.old.rests (flow_of (S.engine_of live.old.session))
         (record {
@@ -94,6 +97,9 @@ fn answer_next<S: Living + Drop, L: LineSource>(
     ensures flow { flow_of (S.engine_of live.new.session) ≡ flow_of (S.engine_of live.old.session) }
     ensures rests { live.new.rests ≡ live.old.rests }
     ensures told_before { IsSome (S.records live.new.session) → IsSome (S.records live.old.session) }
+    ensures texts { S.digests_of live.new.session ≡ S.digests_of live.old.session }
+    ensures left { (story : Story) → S.at live.old.session story → S.may_restart live.old.session → IsSome (S.records live.new.session)
+        → S.may_restart live.new.session }
     ensures end { result ≡ Ok None → (live.new ≡ live.old) × (L.given input.new ≡ L.given input.old) × (L.ended input.new ≡ true) }
     ensures answered { IfOk result (λ answer. IfSome answer (λ text. Serves live.old.rests (flow_of (S.engine_of live.old.session))
         (record {
@@ -134,6 +140,9 @@ fn answer_line<S: Living + Drop>(
     ensures flow { flow_of (S.engine_of live.new.session) ≡ flow_of (S.engine_of live.old.session) }
     ensures rests { live.new.rests ≡ live.old.rests }
     ensures told_before { IsSome (S.records live.new.session) → IsSome (S.records live.old.session) }
+    ensures texts { S.digests_of live.new.session ≡ S.digests_of live.old.session }
+    ensures left { (story : Story) → S.at live.old.session story → S.may_restart live.old.session → IsSome (S.records live.new.session)
+        → S.may_restart live.new.session }
     ensures some { result ≡ Ok None → ⊥ }
     ensures answered { (given : Option (List LineIn)) → IfOk result (λ answer. IfSome answer (λ text.
         Serves live.old.rests (flow_of (S.engine_of live.old.session))
@@ -168,6 +177,9 @@ fn answer_long<S: Living + Drop>(
     ensures flow { flow_of (S.engine_of live.new.session) ≡ flow_of (S.engine_of live.old.session) }
     ensures rests { live.new.rests ≡ live.old.rests }
     ensures told_before { IsSome (S.records live.new.session) → IsSome (S.records live.old.session) }
+    ensures texts { S.digests_of live.new.session ≡ S.digests_of live.old.session }
+    ensures left { (story : Story) → S.at live.old.session story → S.may_restart live.old.session → IsSome (S.records live.new.session)
+        → S.may_restart live.new.session }
     ensures some { result ≡ Ok None → ⊥ }
     ensures answered { (given : Option (List LineIn)) → IfOk result (λ answer. IfSome answer (λ text.
         Serves live.old.rests (flow_of (S.engine_of live.old.session))

@@ -30,6 +30,8 @@ pub(crate) fn take_turn<S: Living>(
 ) -> Result<(), EngineFault>
     ensures flow { flow_of (S.engine_of session.new) ≡ flow_of (S.engine_of session.old) }
     ensures told_before { IsSome (S.records session.new) → IsSome (S.records session.old) }
+    ensures texts { S.digests_of session.new ≡ S.digests_of session.old }
+    ensures left { (story : Story) → S.at session.old story → S.may_restart session.old → IsSome (S.records session.new) → S.may_restart session.new }
     ensures faults { S.fault_count session.new ≡ faults_after_step result (S.fault_count session.old) }
     ensures unharmed { (story : Story) (id : ℕ) → S.at session.old story → IsErrOf result (EngineFault.Damaged id)
         → S.records session.new ≡ None }
@@ -53,6 +55,8 @@ fn take_rest<S: Living>(
 ) -> Result<(), EngineFault>
     ensures flow { flow_of (S.engine_of session.new) ≡ flow_of (S.engine_of session.old) }
     ensures told_before { IsSome (S.records session.new) → IsSome (S.records session.old) }
+    ensures texts { S.digests_of session.new ≡ S.digests_of session.old }
+    ensures left { (story : Story) → S.at session.old story → S.may_restart session.old → IsSome (S.records session.new) → S.may_restart session.new }
     ensures faults { S.fault_count session.new ≡ faults_after_step result (S.fault_count session.old) }
     ensures unharmed { (id : ℕ) → IsErrOf result (EngineFault.Damaged id) → ⊥ }
     ensures ends { (story : Story) → S.at session.old story
@@ -76,6 +80,8 @@ fn take_first<S: Living>(
 ) -> Result<(), EngineFault>
     ensures flow { flow_of (S.engine_of session.new) ≡ flow_of (S.engine_of session.old) }
     ensures told_before { IsSome (S.records session.new) → IsSome (S.records session.old) }
+    ensures texts { S.digests_of session.new ≡ S.digests_of session.old }
+    ensures left { (story : Story) → S.at session.old story → S.may_restart session.old → IsSome (S.records session.new) → S.may_restart session.new }
     ensures faults { S.fault_count session.new ≡ faults_after_step result (S.fault_count session.old) }
     ensures unharmed { (story : Story) (id : ℕ) → S.at session.old story → IsErrOf result (EngineFault.Damaged id)
         → S.records session.new ≡ None }
@@ -101,6 +107,8 @@ fn take_item<S: Living>(
 ) -> Result<(), EngineFault>
     ensures flow { flow_of (S.engine_of session.new) ≡ flow_of (S.engine_of session.old) }
     ensures told_before { IsSome (S.records session.new) → IsSome (S.records session.old) }
+    ensures texts { S.digests_of session.new ≡ S.digests_of session.old }
+    ensures left { (story : Story) → S.at session.old story → S.may_restart session.old → IsSome (S.records session.new) → S.may_restart session.new }
     ensures faults { S.fault_count session.new ≡ faults_after_step result (S.fault_count session.old) }
     ensures unharmed { (story : Story) (id : ℕ) → S.at session.old story → IsErrOf result (EngineFault.Damaged id)
         → S.records session.new ≡ None }
@@ -126,6 +134,8 @@ fn take_step<S: Living>(
 ) -> Result<(), EngineFault>
     ensures flow { flow_of (S.engine_of session.new) ≡ flow_of (S.engine_of session.old) }
     ensures told_before { IsSome (S.records session.new) → IsSome (S.records session.old) }
+    ensures texts { S.digests_of session.new ≡ S.digests_of session.old }
+    ensures left { (story : Story) → S.at session.old story → S.may_restart session.old → IsSome (S.records session.new) → S.may_restart session.new }
     ensures faults { S.fault_count session.new ≡ faults_after_step result (S.fault_count session.old) }
     ensures unharmed { (story : Story) (id : ℕ) → S.at session.old story → IsErrOf result (EngineFault.Damaged id)
         → S.records session.new ≡ None }
@@ -151,6 +161,8 @@ fn take_auto<S: Living>(
 ) -> Result<(), EngineFault>
     ensures flow { flow_of (S.engine_of session.new) ≡ flow_of (S.engine_of session.old) }
     ensures told_before { IsSome (S.records session.new) → IsSome (S.records session.old) }
+    ensures texts { S.digests_of session.new ≡ S.digests_of session.old }
+    ensures left { (story : Story) → S.at session.old story → S.may_restart session.old → IsSome (S.records session.new) → S.may_restart session.new }
     ensures faults { S.fault_count session.new ≡ faults_after_step result (S.fault_count session.old) }
     ensures unharmed { (id : ℕ) → IsErrOf result (EngineFault.Damaged id) → ⊥ }
     ensures ends { (story : Story) → S.at session.old story

@@ -91,6 +91,8 @@ pub(crate) fn turn<S: Living>(
 ) -> Result<(), LifeFault>
     ensures flow { flow_of (S.engine_of session.new) ≡ flow_of (S.engine_of session.old) }
     ensures told_before { IsSome (S.records session.new) → IsSome (S.records session.old) }
+    ensures texts { S.digests_of session.new ≡ S.digests_of session.old }
+    ensures left { (story : Story) → S.at session.old story → S.may_restart session.old → IsSome (S.records session.new) → S.may_restart session.new }
     ensures faults { FaultsBy result counts.old.faults counts.new.faults (S.fault_count session.old) (S.fault_count session.new) }
     ensures lasts { S.lasts ≡ false → IsErrOf result LifeFault.StoreFault → ⊥ }
     ensures turned { (story : Story) → S.at session.old story → IsMaybeReliedOn (S.records session.new) (first_item asked.now.items)
@@ -129,6 +131,8 @@ fn begin<S: Living>(
 ) -> Result<(), LifeFault>
     ensures flow { flow_of (S.engine_of session.new) ≡ flow_of (S.engine_of session.old) }
     ensures told_before { IsSome (S.records session.new) → IsSome (S.records session.old) }
+    ensures texts { S.digests_of session.new ≡ S.digests_of session.old }
+    ensures left { (story : Story) → S.at session.old story → S.may_restart session.old → IsSome (S.records session.new) → S.may_restart session.new }
     ensures faults { CountsKeeping result (S.records session.new) (S.at session.old) (S.fault_count session.old) (S.fault_count session.new) }
     ensures lasts { S.lasts ≡ false → IsErrOf result LifeFault.StoreFault → ⊥ }
     ensures begun { (story : Story) → S.at session.old story
@@ -166,6 +170,9 @@ fn keep<S: Living>(
 ) -> Result<(), LifeFault>
     ensures flow { flow_of (S.engine_of session.new) ≡ flow_of (S.engine_of session.old) }
     ensures told_before { IsSome (S.records session.new) → IsSome (S.records session.old) }
+    ensures texts { S.digests_of session.new ≡ S.digests_of session.old }
+    ensures left { ((IsErrOf taken EngineFault.NoMemory → ⊥) → (story : Story) × S.at session.old story) → S.may_restart session.old
+        → IsSome (S.records session.new) → S.may_restart session.new }
     ensures faults { S.fault_count session.new ≡ life_faults_after result (S.fault_count session.old) }
     ensures lasts { S.lasts ≡ false → IsErrOf result LifeFault.StoreFault → ⊥ }
     ensures kept { (story : Story) → S.at session.old story → OnOk result (S.at session.new story × S.keeps session.new story lines.now) }

@@ -2,6 +2,7 @@
 ghost use Rattle.std.specs.Prelude.{◌≡◌, ◌≢◌, ◌↔◌, ◌⊎◌, ◌-◌, ◌^◌, ◌≤◌, ℕ, false, is_some, Bool, List, Option, IfOk, IsErrOf, IsSome, OnOk};
 ghost use Rattle.fw_bag.specs.Keyed.{sorted_recs};
 ghost use Rattle.fw_keep.specs.Stored.{Records};
+ghost use Rattle.fw_root.specs.declared.root.Digests.{Digests};
 ghost use Rattle.fw_flow.specs.declared.step.Step.TheVariants.{Recover};
 ghost use Rattle.fw_running.specs.Faults.{faults_after_step};
 ghost use Rattle.fw_running.specs.Steps.{MayCallByItself, MayCallStore};
@@ -33,6 +34,12 @@ pub trait Living {
 
     /// How often its store failed.
     ghost fault_count: { Self → ℕ };
+
+    /// Of which texts are the roots that its store holds, where it lasts.
+    ghost digests_of: { Self → Option Digests };
+
+    /// A start may go on over its store.
+    ghost may_restart: { Self → Type 0 };
 
     /// It is at this story: this is what was done in it.
     ghost at: { Self → Story → Type 0 };
@@ -72,7 +79,9 @@ pub trait Living {
         ensures flow { flow_of (engine_of self.new) ≡ flow_of (engine_of self.old) }
         ensures store { lasts ≡ false → IsErrOf result LifeFault.StoreFault → ⊥ }
         ensures faults { CountsKeeping result (records self.new) (at self.old) (fault_count self.old) (fault_count self.new) }
-        ensures told_before { IsSome (records self.new) → IsSome (records self.old) };
+        ensures told_before { IsSome (records self.new) → IsSome (records self.old) }
+        ensures texts { digests_of self.new ≡ digests_of self.old }
+        ensures left { (story : Story) → at self.old story → IsSome (records self.new) → may_restart self.new };
 
     /// Nothing more comes to the source: the batch of this epoch, which is empty, is its last.
     ///
@@ -88,7 +97,9 @@ pub trait Living {
         ensures flow { flow_of (engine_of self.new) ≡ flow_of (engine_of self.old) }
         ensures store { lasts ≡ false → IsErrOf result LifeFault.StoreFault → ⊥ }
         ensures faults { CountsKeeping result (records self.new) (at self.old) (fault_count self.old) (fault_count self.new) }
-        ensures told_before { IsSome (records self.new) → IsSome (records self.old) };
+        ensures told_before { IsSome (records self.new) → IsSome (records self.old) }
+        ensures texts { digests_of self.new ≡ digests_of self.old }
+        ensures left { (story : Story) → at self.old story → IsSome (records self.new) → may_restart self.new };
 
     /// Takes a step, and tells what it shows: Idle where it is not enabled, and where it is the injection of the last batch of a source
     /// that is open.
@@ -103,7 +114,9 @@ pub trait Living {
         ensures tells { step.now ≢ Recover → is_some (records self.new) ≡ is_some (records self.old) }
         ensures flow { flow_of (engine_of self.new) ≡ flow_of (engine_of self.old) }
         ensures faults { fault_count self.new ≡ faults_after_step result (fault_count self.old) }
-        ensures told_before { IsSome (records self.new) → IsSome (records self.old) };
+        ensures told_before { IsSome (records self.new) → IsSome (records self.old) }
+        ensures texts { digests_of self.new ≡ digests_of self.old }
+        ensures left { (story : Story) → at self.old story → IsSome (records self.new) → may_restart self.new };
 
     /// Takes the first step that is enabled, in the order of `auto`, where no source that is open injects its last batch. The errors are
     /// those of `step`; no record is damaged.
@@ -113,7 +126,9 @@ pub trait Living {
         ensures tells { is_some (records self.new) ≡ is_some (records self.old) }
         ensures flow { flow_of (engine_of self.new) ≡ flow_of (engine_of self.old) }
         ensures faults { fault_count self.new ≡ faults_after_step result (fault_count self.old) }
-        ensures told_before { IsSome (records self.new) → IsSome (records self.old) };
+        ensures told_before { IsSome (records self.new) → IsSome (records self.old) }
+        ensures texts { digests_of self.new ≡ digests_of self.old }
+        ensures left { (story : Story) → at self.old story → IsSome (records self.new) → may_restart self.new };
 
     /// Keeps what was done, at the end of a line, before its answer is told, and these lines, of what its steps showed.
     ///
@@ -126,5 +141,7 @@ pub trait Living {
         ensures store { lasts ≡ false → IsErrOf result LifeFault.StoreFault → ⊥ }
         ensures faults { fault_count self.new ≡ life_faults_after result (fault_count self.old) }
         ensures not_fed { IsErrOf result LifeFault.NotFed → ⊥ }
-        ensures told_before { IsSome (records self.new) → IsSome (records self.old) };
+        ensures told_before { IsSome (records self.new) → IsSome (records self.old) }
+        ensures texts { digests_of self.new ≡ digests_of self.old }
+        ensures left { (story : Story) → at self.old story → IsSome (records self.new) → may_restart self.new };
 }

@@ -12,7 +12,7 @@ use fw_session::{FeedFault, Session};
 
 /// It keeps nothing beside its store.
 impl<K: Store + Drop> Living for Session<K> {
-    ghost use Rattle.std.specs.Prelude.{false};
+    ghost use Rattle.std.specs.Prelude.{false, None};
     ghost use Rattle.fw_session.specs.Session.{IsAt};
 
     ghost lasts = { false };
@@ -22,6 +22,11 @@ impl<K: Store + Drop> Living for Session<K> {
     ghost records = { λ session. (K.view session.store).records };
 
     ghost fault_count = { λ session. (K.view session.store).faults };
+
+    ghost digests_of = { λ session. None };
+
+    // It ends with its store.
+    ghost may_restart = { λ session. Unit {0} };
 
     ghost at = { λ session story. IsAt session.engine (K.view session.store).records session.arrivals story };
 

@@ -6,6 +6,7 @@ use Rattle.fw_engine.specs.Engine.{flow_of}
 use Rattle.fw_command.specs.Writing.{IsWritten}
 use Rattle.fw_live.specs.declared.fault.ServeFault.TheVariants.{Read}
 use Rattle.fw_live.specs.Serving.{GivesMany, IsCutBy, Serves}
+use Rattle.fw_live.proofs.CommandLaws.{relied-told}
 use Rattle.fw_live.proofs.FaultsLaws.{same≤}
 use Rattle.fw_live.proofs.ServingLaws.{calm-more, counts-calm, counts-cut, counts-stopped, gives-none, lines-failed, lines-kept, many-more, many-none, part-before, part-within, serves-more, serves-none}
 use Rattle.fw_live.proofs.serving.serve.Goals as goal
@@ -17,6 +18,8 @@ loop-init g c =
       flow = refl;
       rests = refl;
       told_before = λ told. told;
+      texts = refl;
+      left = λ story kept at keeps may told. may;
       of_story = c.is_at_stories.ensures;
       many = many-none (g.L.LineSource.given c.args.input.now);
       lines = refl;
@@ -35,6 +38,11 @@ loop-preserved g c =
       flow = c.answer_next.ensures.flow ∙ inv.flow;
       rests = c.answer_next.ensures.rests ∙ inv.rests;
       told_before = λ told. inv.told_before (c.answer_next.ensures.told_before told);
+      texts = c.answer_next.ensures.texts ∙ inv.texts;
+      left = λ story kept at keeps may told.
+          let t = c.answer_next.ensures.told_before told in
+          let s = inv.served.serves story kept (at, keeps) (relied-told (g.S.Living.records now.session) (flow_of (g.S.Living.engine_of old.session)) inv.served.lines t) in
+          c.answer_next.ensures.left s.last s.at.0 (inv.left story kept at keeps may t) told;
       of_story = c.is_at_stories-in-loop.ensures;
       many = many-more c.loop.counter (g.L.LineSource.given c.args.input.now) (g.L.LineSource.given c.loop.input)
           (g.L.LineSource.given c.answer_next.new.input) inv.many
@@ -148,3 +156,30 @@ returns-clause-lines_failed g c =
 
 pub returns-clause-writes_failed : goal.returns-clause-writes_failed
 returns-clause-writes_failed g c = counts-stopped Read (g.O.Sink.view c.args.out.now) (g.O.Sink.view c.loop.out) (λ e. absurd cc) c.loop.invariant.calm
+
+pub returns-in_err-answer-clause-left : goal.returns-in_err-answer-clause-left
+returns-in_err-answer-clause-left g c = λ story kept at keeps may told.
+    let inv = c.loop.invariant in
+    let t = c.answer_next.ensures.told_before told in
+    let s = inv.served.serves story kept (at, keeps) (relied-told (g.S.Living.records c.loop.live.session)
+    (flow_of (g.S.Living.engine_of c.args.live.now.session)) inv.served.lines t) in
+    c.answer_next.ensures.left s.last s.at.0 (inv.left story kept at keeps may t) told
+
+pub returns-in_default-clause-left : goal.returns-in_default-clause-left
+returns-in_default-clause-left g c = λ story kept at keeps may told.
+    let inv = c.loop.invariant in
+    let t = c.answer_next.ensures.told_before told in
+    let s = inv.served.serves story kept (at, keeps) (relied-told (g.S.Living.records c.loop.live.session)
+    (flow_of (g.S.Living.engine_of c.args.live.now.session)) inv.served.lines t) in
+    c.answer_next.ensures.left s.last s.at.0 (inv.left story kept at keeps may t) told
+
+pub returns-in_err-write-clause-left : goal.returns-in_err-write-clause-left
+returns-in_err-write-clause-left g c = λ story kept at keeps may told.
+    let inv = c.loop.invariant in
+    let t = c.answer_next.ensures.told_before told in
+    let s = inv.served.serves story kept (at, keeps) (relied-told (g.S.Living.records c.loop.live.session)
+    (flow_of (g.S.Living.engine_of c.args.live.now.session)) inv.served.lines t) in
+    c.answer_next.ensures.left s.last s.at.0 (inv.left story kept at keeps may t) told
+
+pub returns-clause-left : goal.returns-clause-left
+returns-clause-left g c = c.loop.invariant.left

@@ -1,4 +1,4 @@
-use Rattle.std.proofs.Common.{◌≡◌}
+use Rattle.std.proofs.Common.{◌≡◌, ℕ, List}
 use Rattle.std.specs.Prelude.{IsSome}
 use Rattle.fw_engine.specs.Engine.{flow_of}
 use Rattle.fw_command.specs.Writing.{IsWritten}
@@ -13,6 +13,9 @@ invariant-loop g l = record {
   flow : flow_of (g.S.Living.engine_of l.live.session) ≡ flow_of (g.S.Living.engine_of l.fn.live.session);
   rests : l.live.rests ≡ l.fn.live.rests;
   told_before : IsSome (g.S.Living.records l.live.session) → IsSome (g.S.Living.records l.fn.live.session);
+  texts : g.S.Living.digests_of l.live.session ≡ g.S.Living.digests_of l.fn.live.session;
+  left : (story : Story) (kept : List ℕ) → g.S.Living.at l.fn.live.session story → g.S.Living.keeps l.fn.live.session story kept
+      → g.S.Living.may_restart l.fn.live.session → IsSome (g.S.Living.records l.live.session) → g.S.Living.may_restart l.live.session;
   of_story : (story : Story) → g.S.Living.at l.live.session story → IsStory (flow_of (g.S.Living.engine_of l.live.session)) story;
   many : GivesMany l.counter (g.L.LineSource.given l.fn.input) (g.L.LineSource.given l.input);
   lines : g.L.LineSource.fault_count l.input ≡ g.L.LineSource.fault_count l.fn.input;

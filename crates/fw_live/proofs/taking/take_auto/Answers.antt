@@ -13,6 +13,8 @@ loop-init g c =
     record {
       flow = refl;
       told_before = λ told. told;
+      texts = refl;
+      left = λ story at may told. may;
       faults = refl;
       taken = λ story at. auto-begun (flow_of (g.S.Living.engine_of old)) story (record { bytes = c.args.into.now.items; counts = c.args.counts.now })
           (g.S.Living.at old) at;
@@ -28,6 +30,8 @@ loop-preserved g c =
     record {
       flow = c.auto_step.ensures.flow ∙ inv.flow;
       told_before = λ told. inv.told_before (c.auto_step.ensures.told_before told);
+      texts = c.auto_step.ensures.texts ∙ inv.texts;
+      left = λ story at may told. c.auto_step.ensures.left (inv.taken story at).next (inv.taken story at).at told;
       faults = c.in_ok-stepped.ensures.faults ∙ inv.faults;
       taken = λ story at. auto-more (flow_of (g.S.Living.engine_of old)) (flow_of (g.S.Living.engine_of now)) story c.loop.counter o
           (g.S.Living.at now) (g.S.Living.at new) (record { bytes = c.args.into.now.items; counts = c.args.counts.now })
@@ -77,3 +81,18 @@ returns-then-is_idle-clause-faults g c = c.in_ok-stepped.ensures.faults ∙ c.lo
 
 pub returns-clause-faults : goal.returns-clause-faults
 returns-clause-faults g c = c.loop.invariant.faults
+
+pub returns-in_err-stepped-clause-left : goal.returns-in_err-stepped-clause-left
+returns-in_err-stepped-clause-left g c = λ story at may told.
+    c.auto_step.ensures.left (c.loop.invariant.taken story at).next (c.loop.invariant.taken story at).at told
+
+pub returns-then-is_idle-clause-left : goal.returns-then-is_idle-clause-left
+returns-then-is_idle-clause-left g c = λ story at may told.
+    c.auto_step.ensures.left (c.loop.invariant.taken story at).next (c.loop.invariant.taken story at).at told
+
+pub returns-in_err-write_outcome-clause-left : goal.returns-in_err-write_outcome-clause-left
+returns-in_err-write_outcome-clause-left g c = λ story at may told.
+    c.auto_step.ensures.left (c.loop.invariant.taken story at).next (c.loop.invariant.taken story at).at told
+
+pub returns-clause-left : goal.returns-clause-left
+returns-clause-left g c = c.loop.invariant.left

@@ -11,6 +11,9 @@ abbrev pub invariant-loop : goal.invariant-loop
 invariant-loop g l = record {
   flow : flow_of (g.S.Living.engine_of l.session) ≡ flow_of (g.S.Living.engine_of l.fn.session);
   told_before : IsSome (g.S.Living.records l.session) → IsSome (g.S.Living.records l.fn.session);
+  texts : g.S.Living.digests_of l.session ≡ g.S.Living.digests_of l.fn.session;
+  left : (story : Story) → g.S.Living.at l.fn.session story → g.S.Living.may_restart l.fn.session → IsSome (g.S.Living.records l.session)
+      → g.S.Living.may_restart l.session;
   faults : g.S.Living.fault_count l.session ≡ g.S.Living.fault_count l.fn.session;
   taken : (story : Story) → g.S.Living.at l.fn.session story
       → GoesOnPrinting (flow_of (g.S.Living.engine_of l.fn.session)) (HasTaken (flow_of (g.S.Living.engine_of l.fn.session)) story l.counter)

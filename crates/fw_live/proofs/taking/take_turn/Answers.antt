@@ -5,6 +5,7 @@ use Rattle.fw_live.specs.Answers.{rest_item}
 use Rattle.fw_live.specs.Reading.{first_item}
 use Rattle.fw_live.specs.Relies.{EndsSo, GoesOnPrinting}
 use Rattle.fw_live.specs.Taken.{EndsMaybe}
+use Rattle.fw_live.proofs.CommandLaws.{relied-some}
 use Rattle.fw_live.proofs.TakingLaws.{first-ends, relied-maybe, second-ends}
 use Rattle.fw_live.proofs.taking.take_turn.Goals as goal
 
@@ -31,3 +32,9 @@ returns-clause-ends g c = λ story at relied.
     (record { bytes = c.take_first.new.into.items; counts = c.take_first.new.counts })
     (record { bytes = c.take_rest.new.into.items; counts = c.take_rest.new.counts }) At) c.take_rest.result) c.take_first.ensures.flow
     (c.take_rest.ensures.ends s there))
+
+pub returns-clause-left : goal.returns-clause-left
+returns-clause-left g c = λ story at may told.
+    let t = c.take_rest.ensures.told_before told in
+    let s = c.in_ok-take_first.ensures.ends story at (relied-some (g.S.Living.records c.take_first.new.session) (first_item c.args.items.now) t) in
+    c.take_rest.ensures.left s.next s.at (c.take_first.ensures.left story at may t) told

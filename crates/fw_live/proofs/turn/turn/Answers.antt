@@ -8,8 +8,9 @@ use Rattle.fw_live.specs.Reading.{change_in, first_item, read_in}
 use Rattle.fw_live.specs.Relies.{EndsSo, GoesOnPrinting, IsMaybeReliedOn}
 use Rattle.fw_live.specs.Taken.{EndsBoth}
 use Rattle.fw_live.proofs.AnsweredLaws.{has-turned}
+use Rattle.fw_live.proofs.CommandLaws.{relied-some}
 use Rattle.fw_live.proofs.FaultsLaws.{keeping-done, keeping-more, life-more, line-more, same≤, step-more, told-none, turn-told}
-use Rattle.fw_live.proofs.TakingLaws.{relied-maybe}
+use Rattle.fw_live.proofs.TakingLaws.{ends-at, relied-maybe}
 use Rattle.fw_live.proofs.turn.turn.Goals as goal
 
 pub returns-clause-turned : goal.returns-clause-turned
@@ -67,7 +68,7 @@ returns-in_err-begin-clause-faults g c =
     let count = g.S.Living.fault_count in
     let old = c.args.session.now in
     let begun = c.begin.new.session in
-    rw p.1 (keeping-more {T = Unit {0}} (Err c.in_err-begin.field-0.0) (g.S.Living.records begun) (g.S.Living.at old) (count old) (count begun)
+    rw (p.1) (keeping-more {T = Unit {0}} (Err c.in_err-begin.field-0.0) (g.S.Living.records begun) (g.S.Living.at old) (count old) (count begun)
     c.in_err-begin.ensures.faults)
 
 pub returns-in_err-keep-clause-faults : goal.returns-in_err-keep-clause-faults
@@ -78,7 +79,7 @@ returns-in_err-keep-clause-faults g c =
     let begun = c.begin.new.session in
     let taken = c.take_turn-taken in
     let kept = c.keep.new.session in
-    rw p.1 (line-more (count old) (count begun) (count taken.new.session) (count kept)
+    rw (p.1) (line-more (count old) (count begun) (count taken.new.session) (count kept)
     (keeping-done {T = Unit {0}} tt (g.S.Living.records begun) (g.S.Living.at old) (count old) (count begun) c.in_ok-begin.ensures.faults)
     (step-more taken.result (count begun) (count taken.new.session) taken.ensures.faults)
     (life-more {T = Unit {0}} (Err c.in_err-keep.field-0.0) (count taken.new.session) (count kept) c.in_err-keep.ensures.faults))
@@ -91,7 +92,55 @@ returns-in_err-end-clause-faults g c =
     let begun = c.begin.new.session in
     let taken = c.take_turn-taken in
     let kept = c.keep.new.session in
-    rw p.1 (line-more (count old) (count begun) (count taken.new.session) (count kept)
+    rw (p.1) (line-more (count old) (count begun) (count taken.new.session) (count kept)
     (keeping-done {T = Unit {0}} tt (g.S.Living.records begun) (g.S.Living.at old) (count old) (count begun) c.in_ok-begin.ensures.faults)
     (step-more taken.result (count begun) (count taken.new.session) taken.ensures.faults)
     (same≤ (count taken.new.session) (count kept) c.in_ok-keep.ensures.faults))
+
+pub returns-clause-left : goal.returns-clause-left
+returns-clause-left g c = λ story at may told.
+    let mid = c.take_turn-taken.new.session in
+    let t = c.keep.ensures.told_before told in
+    let tb = c.take_turn-taken.ensures.told_before t in
+    let next = c.in_ok-begin.ensures.begun story at in
+    let flow = flow_of (g.S.Living.engine_of c.begin.new.session) in
+    let first = first_item c.as_slice-items.result.now in
+    let changed = after_change (change_in c.args.asked.now.change) story in
+    let there = ends-at flow (λ ending outcomes s. EndsBoth flow changed first (rest_item c.rests_behind-rests.result) ending outcomes s)
+    (record { bytes = c.begin.new.into.items; counts = c.new-steps.result })
+    (record { bytes = c.take_turn-taken.new.into.items; counts = c.take_turn-taken.new.counts }) c.take_turn-taken.result (g.S.Living.at mid)
+    (λ s. c.take_turn-taken.ensures.ends changed next.0 s) (relied-some (g.S.Living.records mid) first t) in
+    c.keep.ensures.left there (c.take_turn-taken.ensures.left (after_change (change_in c.args.asked.now.change) story) next.0
+    (c.begin.ensures.left story at may tb) t) told
+
+pub returns-in_err-keep-clause-left : goal.returns-in_err-keep-clause-left
+returns-in_err-keep-clause-left g c = λ story at may told.
+    let mid = c.take_turn-taken.new.session in
+    let t = c.keep.ensures.told_before told in
+    let tb = c.take_turn-taken.ensures.told_before t in
+    let next = c.in_ok-begin.ensures.begun story at in
+    let flow = flow_of (g.S.Living.engine_of c.begin.new.session) in
+    let first = first_item c.as_slice-items.result.now in
+    let changed = after_change (change_in c.args.asked.now.change) story in
+    let there = ends-at flow (λ ending outcomes s. EndsBoth flow changed first (rest_item c.rests_behind-rests.result) ending outcomes s)
+    (record { bytes = c.begin.new.into.items; counts = c.new-steps.result })
+    (record { bytes = c.take_turn-taken.new.into.items; counts = c.take_turn-taken.new.counts }) c.take_turn-taken.result (g.S.Living.at mid)
+    (λ s. c.take_turn-taken.ensures.ends changed next.0 s) (relied-some (g.S.Living.records mid) first t) in
+    c.keep.ensures.left there (c.take_turn-taken.ensures.left (after_change (change_in c.args.asked.now.change) story) next.0
+    (c.begin.ensures.left story at may tb) t) told
+
+pub returns-in_err-end-clause-left : goal.returns-in_err-end-clause-left
+returns-in_err-end-clause-left g c = λ story at may told.
+    let mid = c.take_turn-taken.new.session in
+    let t = c.keep.ensures.told_before told in
+    let tb = c.take_turn-taken.ensures.told_before t in
+    let next = c.in_ok-begin.ensures.begun story at in
+    let flow = flow_of (g.S.Living.engine_of c.begin.new.session) in
+    let first = first_item c.as_slice-items.result.now in
+    let changed = after_change (change_in c.args.asked.now.change) story in
+    let there = ends-at flow (λ ending outcomes s. EndsBoth flow changed first (rest_item c.rests_behind-rests.result) ending outcomes s)
+    (record { bytes = c.begin.new.into.items; counts = c.new-steps.result })
+    (record { bytes = c.take_turn-taken.new.into.items; counts = c.take_turn-taken.new.counts }) c.take_turn-taken.result (g.S.Living.at mid)
+    (λ s. c.take_turn-taken.ensures.ends changed next.0 s) (relied-some (g.S.Living.records mid) first t) in
+    c.keep.ensures.left there (c.take_turn-taken.ensures.left (after_change (change_in c.args.asked.now.change) story) next.0
+    (c.begin.ensures.left story at may tb) t) told

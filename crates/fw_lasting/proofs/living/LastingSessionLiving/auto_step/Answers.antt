@@ -1,7 +1,7 @@
 use Rattle.fw_engine.specs.Engine.{flow_of}
 use Rattle.fw_session.specs.Story.{Story}
 use Rattle.fw_lasting.specs.UnderWay.{IsUnderWay}
-use Rattle.fw_lasting.proofs.LivingLaws.{first-one}
+use Rattle.fw_lasting.proofs.LivingLaws.{first-one, some-still}
 use Rattle.fw_lasting.proofs.living.LastingSessionLiving.auto_step.Goals as goal
 
 pub returns-clause-goes_on : goal.returns-clause-goes_on
@@ -13,3 +13,10 @@ returns-clause-goes_on g c =
     (λ kept now. IsUnderWay old.digests old.engine.engine old.arrivals (view old.store).records old.turn kept now)
     (λ kept now. IsUnderWay new.digests new.engine.engine new.arrivals (view new.store).records new.turn kept now)
     c.auto_step.result c.auto_step.ensures.goes_on
+
+pub returns-clause-left : goal.returns-clause-left
+returns-clause-left g c = λ story at told.
+    let old = c.args.self.now in
+    let new = c.auto_step.new.self in
+    some-still (flow_of old.engine.engine) (flow_of new.engine.engine) old.digests new.digests (g.K.Store.view new.store).records at.0
+    c.auto_step.ensures.flow c.auto_step.ensures.digests (c.auto_step.ensures.holds at.0 story at.1)

@@ -1,0 +1,4 @@
+pub mod OpeningLaws
+pub mod AnswersLaws
+pub mod CallLaws
+pub mod NextLaws

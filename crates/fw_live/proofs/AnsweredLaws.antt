@@ -1,5 +1,5 @@
 -- What a line came to, and its answer.
-use Rattle.std.proofs.Common.{◌≡◌, ℕ, ◌+◌, ◌-◌, Bool, true, false, List, [], ◌∷◌, ◌++◌, length, Option, Some, None, Result, Ok, Err, refl, sym, ap, subst, ◌∙◌, arith}
+use Rattle.std.proofs.Common.{◌≡◌, inr, ℕ, ◌+◌, ◌-◌, ◌^◌, ◌≤◌, Bool, true, false, List, [], ◌∷◌, ◌++◌, length, Option, Some, None, Result, Ok, Err, refl, sym, ap, subst, ◌∙◌, arith}
 use Rattle.std.proofs.lemmas.Bool.{false≢true}
 use Rattle.std.proofs.lemmas.List.{append_assoc}
 use Rattle.std.specs.Prelude.{◌≢◌, IfOk, IsErrOf, IsSome}
@@ -13,11 +13,30 @@ use Rattle.fw_session.specs.Story.{Story}
 use Rattle.fw_live.specs.declared.rule.LineRule.{LineRule}
 use Rattle.fw_live.specs.declared.counts.LineCounts.{LineCounts}
 use Rattle.fw_live.specs.declared.counts.TurnCounts.{TurnCounts}
-use Rattle.fw_live.specs.Answered.{HasAnswered, HasTurned}
-use Rattle.fw_live.specs.Answers.{refused, turned, change_text, ending_text, refused_line, saturated, done_count, counts_ended, counts_stepped, counts_turned, with_line, after_change, rest_item, rests_behind, IsAnswerTo}
-use Rattle.fw_live.specs.Asked.{Asked, allowed, change_fault, unless_fault}
+use Rattle.fw_live.specs.Answered.{HasAnswered, HasTurned, look_text}
+use Rattle.fw_live.specs.Answers.{
+  refused,
+  turned,
+  change_text,
+  ending_text,
+  refused_line,
+  saturated,
+  done_count,
+  counts_ended,
+  counts_stepped,
+  counts_turned,
+  with_line,
+  after_change,
+  is_look,
+  is_quiet,
+  rest_item,
+  rests_behind,
+  IsAnswerTo,
+}
+use Rattle.fw_live.specs.Asked.{Asked, Change, none, feeds, closes, shows, allowed, change_fault, unless_fault}
 use Rattle.fw_live.specs.Relies.{GoesOnPrinting, EndsSo, turn_counts, step_counted, IsAskedReliedOn, IsMaybeReliedOn}
-use Rattle.fw_live.specs.Taken.{Ending, all, failed, spoiled, EndsBoth}
+use Rattle.fw_live.specs.Taken.{Ending, all, failed, spoiled, EndsBoth, EndsMaybe}
+use Rattle.fw_schedule.specs.declared.item.Item.{Item}
 use Rattle.fw_living.specs.Life.{came_in_story}
 
 -- ---- counts
@@ -66,7 +85,7 @@ joined old told lines last between after new t l e =
     e ∙ ap (λ bytes. bytes ++ last) (l ∙ ap (λ bytes. bytes ++ lines) t) ∙ append_assoc (old ++ told) lines last ∙ append_assoc old told (lines ++ last)
 
 -- steps that ended so were written and counted
-turned-so : (rests : Bool) (flow : Dataflow) (story : Story) (asked : Asked) (ending : Ending) (counts between after : LineCounts)
+turned-so : (rests : Bool) (flow : Dataflow) (story : Story) (kept : List ℕ) (asked : Asked) (ending : Ending) (counts between after : LineCounts)
     (start turn : TurnCounts) (old told printed new : List ℕ) (At : Story → Type 0) (After : Story → List ℕ → Type 0) (records : Option Records)
     → ((s : Story) (shown : List ℕ) → printed ≡ told ++ shown → At s → After s shown)
     → (IsSome records → (id : ℕ) → ending ≢ spoiled id) → start ≡ no-turn
@@ -74,13 +93,13 @@ turned-so : (rests : Bool) (flow : Dataflow) (story : Story) (asked : Asked) (en
     → GoesOnPrinting flow (EndsBoth flow (after_change asked.change story) asked.item (rest_item (rests_behind rests asked.change)) ending)
     (record { bytes = told; counts = start }) (record { bytes = printed; counts = turn }) At
     → between ≡ with-turn turn counts → new ≡ printed ++ ending_text ending turn.done → after ≡ counts_ended ending between
-    → HasTurned rests flow story asked counts after old new After records
-turned-so rests flow story asked ending counts between after start turn old told printed new At After records keeps whole s t goes b n a =
+    → is_look rests asked ≡ false → HasTurned rests flow story kept asked counts after old new After records
+turned-so rests flow story kept asked ending counts between after start turn old told printed new At After records keeps whole s t goes b n a l =
     let c = stepped-counts goes.outcomes turn counts (goes.counted ∙ ap (turn_counts goes.outcomes) s) in
     record {
-      turn = record { told = change_text flow story asked.change; outcomes = goes.outcomes; ending = ending };
+      turn = record { told = change_text flow story asked.change; outcomes = goes.outcomes; ending = ending; looks = false };
       next = goes.next;
-      turns = record { told = refl; ends = goes.goes_on };
+      turns = record { told = refl; looks = sym l; ends = goes.goes_on };
       written = joined old (change_text flow story asked.change) (outcomes_text flow goes.outcomes)
           (ending_text ending (saturated (done_count goes.outcomes))) told printed new t goes.printed (n ∙ ap (λ k. printed ++ ending_text ending k) c.0);
       counted = a ∙ ap (counts_ended ending) (b ∙ c.1);
@@ -94,7 +113,7 @@ all≢spoiled id e = cc
 failed≢spoiled : (id : ℕ) → failed ≡ spoiled id → ⊥
 failed≢spoiled id e = cc
 
-pub has-turned : (rests : Bool) (flow : Dataflow) (story : Story) (asked : Asked) (taken : Result (Unit {0}) EngineFault)
+pub has-turned : (rests : Bool) (flow : Dataflow) (story : Story) (kept : List ℕ) (asked : Asked) (taken : Result (Unit {0}) EngineFault)
     (counts between after : LineCounts) (start turn : TurnCounts) (old told printed new : List ℕ) (At : Story → Type 0)
     (After : Story → List ℕ → Type 0) (records : Option Records) → ((s : Story) (shown : List ℕ) → printed ≡ told ++ shown → At s → After s shown)
     → (IsSome records → (id : ℕ) → IsErrOf taken (fault.Damaged id) → ⊥) → start ≡ no-turn → told ≡ old ++ change_text flow story asked.change
@@ -102,16 +121,72 @@ pub has-turned : (rests : Bool) (flow : Dataflow) (story : Story) (asked : Asked
     (record { bytes = told; counts = start }) (record { bytes = printed; counts = turn }) At) taken
     → between ≡ with-turn turn counts → EndsSo (λ ending. new ≡ printed ++ ending_text ending turn.done) taken
     → EndsSo (λ ending. after ≡ counts_ended ending between) taken → (IsErrOf taken fault.NoMemory → false ≡ true)
-    → HasTurned rests flow story asked counts after old new After records
-has-turned rests flow story asked (Ok x) counts between after start turn old told printed new At After records keeps whole s t goes b n a m =
-    turned-so rests flow story asked all counts between after start turn old told printed new At After records keeps (λ told id e. all≢spoiled id e) s t goes b n a
-has-turned rests flow story asked (Err fault.StoreFault) counts between after start turn old told printed new At After records keeps whole s t goes b n a m =
-    turned-so rests flow story asked failed counts between after start turn old told printed new At After records keeps (λ told id e. failed≢spoiled id e) s t goes b n a
-has-turned rests flow story asked (Err (fault.Damaged id)) counts between after start turn old told printed new At After records keeps whole s t goes b n a m =
-    turned-so rests flow story asked (spoiled id) counts between after start turn old told printed new At After records keeps
-    (λ told other e. whole told id refl) s t goes b n a
-has-turned rests flow story asked (Err fault.NoMemory) counts between after start turn old told printed new At After records keeps whole s t goes b n a m =
+    → is_look rests asked ≡ false → HasTurned rests flow story kept asked counts after old new After records
+has-turned rests flow story kept asked (Ok x) counts between after start turn old told printed new At After records keeps whole s t goes b n a m l =
+    turned-so rests flow story kept asked all counts between after start turn old told printed new At After records keeps (λ told id e. all≢spoiled id e) s t goes b n a l
+has-turned rests flow story kept asked (Err fault.StoreFault) counts between after start turn old told printed new At After records keeps whole s t goes b n a m l =
+    turned-so rests flow story kept asked failed counts between after start turn old told printed new At After records keeps (λ told id e. failed≢spoiled id e) s t goes b n a l
+has-turned rests flow story kept asked (Err (fault.Damaged id)) counts between after start turn old told printed new At After records keeps whole s t goes b n a m l =
+    turned-so rests flow story kept asked (spoiled id) counts between after start turn old told printed new At After records keeps
+    (λ told other e. whole told id refl) s t goes b n a l
+has-turned rests flow story kept asked (Err fault.NoMemory) counts between after start turn old told printed new At After records keeps whole s t goes b n a m l =
     absurd (false≢true (m refl))
+
+-- ---- a look
+
+quiet-none : (rests : Bool) (change : Change) → is_quiet rests change ≡ true
+    → (rests_behind rests change ≡ false) × ((story : Story) → after_change change story ≡ story)
+quiet-none true none e = absurd (false≢true e)
+quiet-none false none e = (refl, λ story. refl)
+quiet-none rests (feeds s recs) e = absurd (false≢true e)
+quiet-none rests (closes s) e = absurd (false≢true e)
+quiet-none rests shows e = (refl, λ story. refl)
+
+-- a look asks for no step
+look-none : (rests : Bool) (change : Change) (item : Option Item) → is_look rests (record { change = change; item = item }) ≡ true
+    → (item ≡ None) × (is_quiet rests change ≡ true)
+look-none rests change None e = (refl, e)
+look-none rests change (Some item) e = absurd (false≢true e)
+
+-- what a look tells was written
+pub has-looked : (rests : Bool) (flow : Dataflow) (story : Story) (kept : List ℕ) (asked : Asked) (counts after : LineCounts) (turn : TurnCounts)
+    (old new : List ℕ) (After : Story → List ℕ → Type 0) (records : Option Records) → is_look rests asked ≡ true → turn ≡ no-turn
+    → after ≡ with-turn turn counts → After story kept → new ≡ old ++ (look_text flow story asked.change ++ ending_text all 0)
+    → HasTurned rests flow story kept asked counts after old new After records
+has-looked rests flow story kept asked counts after turn old new After records l t c a w =
+    let none = look-none rests asked.change asked.item l in
+    let quiet = quiet-none rests asked.change none.1 in
+    record {
+      turn = record { told = change_text flow story asked.change; outcomes = []; ending = all; looks = true };
+      next = story;
+      turns = record {
+        told = refl;
+        looks = sym l;
+        ends = inr (record {
+          before = [];
+          between = story;
+          takes = subst (λ item. EndsMaybe flow (after_change asked.change story) item all [] story) (sym none.0) (refl, refl, sym (quiet.1 story));
+          behind = [];
+          ends = subst (λ b. EndsMaybe flow story (rest_item b) all [] story) (sym quiet.0) (refl, refl, refl);
+          are = refl;
+        });
+      };
+      written = w ∙ ap (λ text. old ++ (text ++ ending_text all 0)) (look-told flow story rests asked.change none.1)
+          ∙ ap (λ n. old ++ (change_text flow story asked.change ++ ending_text all n)) (zero-saturated);
+      counted = c ∙ (stepped-counts [] turn counts t).1;
+      at = a;
+      unharmed = λ told id e. all≢spoiled id e;
+    }
+  where
+    look-told : (flow : Dataflow) (story : Story) (rests : Bool) (change : Change) → is_quiet rests change ≡ true
+        → look_text flow story change ≡ change_text flow story change
+    look-told flow story rests none e = refl
+    look-told flow story rests (feeds s recs) e = absurd (false≢true e)
+    look-told flow story rests (closes s) e = absurd (false≢true e)
+    look-told flow story rests shows e = refl
+
+    zero-saturated : 0 ≡ saturated (done_count [])
+    zero-saturated = omega arith
 
 -- ---- an answer
 
@@ -130,7 +205,7 @@ answer-refused rests flow story kept h rule before after old new At records at e
 
 pub answer-turned : (rests : Bool) (flow : Dataflow) (story : Story) (kept : List ℕ) (h : Result Asked LineRule) (asked : Asked) (before between after : LineCounts)
     (old new : List ℕ) (After : Story → List ℕ → Type 0) (records : Option Records) → Ok asked ≡ allowed story.now.opened (came_in_story flow story) h → between ≡ with_line before
-    → HasTurned rests flow story asked between after old new After records
+    → HasTurned rests flow story kept asked between after old new After records
     → HasAnswered rests flow story kept h before after old new After records
 answer-turned rests flow story kept h asked before between after old new After records e counted has = record {
   answer = turned has.turn;

@@ -32,14 +32,13 @@ use Rattle.fw_schedule.specs.declared.item.Item.TheVariants.{One, Auto}
 use Rattle.fw_live.specs.declared.rule.LineRule.{LineRule}
 use Rattle.fw_live.specs.Answers.{Answer, IsUnharmed}
 use Rattle.fw_live.specs.Asked.{Asked, LineIn, asked_for}
-use Rattle.fw_live.specs.Call.{AnswersAll, AnswersPart, CountsReads, CountsSession, EndsBefore, EndsInLastLine, EndsQuiet, EndsUnbegun, EndsWhole, FlowAnswers, HasFlowSo, IsAnswersText, IsLineCutAt, IsLiveText, GoWellOver, IsPutAt, KeepsFlow, LiveAnswers, LivesGoWell, NeverFail, TellAlways, ReadFaults, StaysQuiet, status_by, status_of, stopped_status, unread_status}
+use Rattle.fw_live.specs.Call.{AnswersAll, AnswersPart, CountsReads, CountsSession, EndsBefore, EndsQuiet, EndsUnbegun, EndsWhole, FlowAnswers, HasFlowSo, IsLineCutAt, IsLiveText, GoWellOver, IsPutAt, KeepsFlow, LiveAnswers, LivesGoWell, NeverFail, TellAlways, ReadFaults, StaysQuiet, status_by, status_of, stopped_status, unread_status}
 use Rattle.fw_live.specs.Faults.{TellsFaults}
 use Rattle.fw_live.specs.Life.{answers_text, counts_behind, counts_line, kept_behind, no_counts}
 use Rattle.fw_live.specs.Relies.{IsAskedReliedOn, IsItemReliedOn, IsMaybeReliedOn, IsReliedOn}
 use Rattle.fw_live.specs.Serving.{AreLinesReliedOn, CountsLines, HasAnsweredAll, HasServed, IsPutBefore, Serves, ServesPart, LivePoint}
 use Rattle.fw_live.specs.Words.{LiveCommand}
 use Rattle.fw_live.proofs.FaultsLaws.{never-told, none-damaged, none-failed, same≤}
-use Rattle.fw_live.proofs.ServingLaws.{cut-more}
 
 -- ---- statuses
 
@@ -182,31 +181,6 @@ whole-text view first last rests flow before after lines status IsPut none there
       told = is ∙ ap status_by counted;
     }
 
-cut-last : (status : Status) (one line : List ℕ) (first mid last : SinkView) → IsWritten one first mid → IsLineCutAt status line mid last
-    → IsPutAt status first last (one ++ line)
-cut-last WriteFault one line first mid last w c = cut-more one line out.Failed first mid last w c
-cut-last NoMemory one line first mid last w c = inr (cut-more one line out.NoMemory first mid last w c)
-cut-last ReadFault one line first mid last w c = absurd c
-cut-last Done one line first mid last w c = absurd c
-cut-last BadWords one line first mid last w c = absurd c
-cut-last (Refused refusal) one line first mid last w c = absurd c
-cut-last StoreFault one line first mid last w c = absurd c
-cut-last (Damaged id) one line first mid last w c = absurd c
-cut-last (DamagedRoot id) one line first mid last w c = absurd c
-cut-last ForeignRoot one line first mid last w c = absurd c
-
-in-last-line : (status : Status) (line : List ℕ) (mid last : SinkView) → IsLineCutAt status line mid last → EndsInLastLine status
-in-last-line WriteFault line mid last c = tt
-in-last-line NoMemory line mid last c = tt
-in-last-line ReadFault line mid last c = absurd c
-in-last-line Done line mid last c = absurd c
-in-last-line BadWords line mid last c = absurd c
-in-last-line (Refused refusal) line mid last c = absurd c
-in-last-line StoreFault line mid last c = absurd c
-in-last-line (Damaged id) line mid last c = absurd c
-in-last-line (DamagedRoot id) line mid last c = absurd c
-in-last-line ForeignRoot line mid last c = absurd c
-
 pub same-lines : (lines : List LineIn) (given gives : Option (List LineIn)) → gives ≡ option_map (λ earlier. earlier ++ lines) given
     → gives ≡ option_map (λ earlier. earlier ++ (lines ++ [])) given
 same-lines lines given gives e = e ∙ ap (λ all. option_map (λ earlier. earlier ++ all) given) (sym (append-nil lines))
@@ -220,6 +194,7 @@ pub flow-served : {K : Type 0} (view : K → StoreView) (rests : Bool) (flow : D
     → (EndsWhole status → (status ≡ status_by after.counts) × IsWritten (counts_line after.counts) mid last)
     → (EndsBefore status → IsLineCutAt status (counts_line after.counts) mid last) → (EndsUnbegun status → ⊥) → (TellsOfRoot status → ⊥)
     → FlowAnswers view rests flow given gives ended status first last
+unfolding whole-text
 flow-served view rests flow before after store0 store given gives ended status first mid last none at records was is there so ends whole part begun root =
     let line = counts_line after.counts in
     let served = λ (relied : (k : _) → AreLinesReliedOn (view k).records flow so.lines).
@@ -245,21 +220,28 @@ flow-served view rests flow before after store0 store given gives ended status f
         lines = so.lines;
         unanswered = [];
         one = omega arith;
+        none_left = λ e. refl;
         gave = same-lines so.lines given gives so.gave;
-        printed = λ relied. let a = served relied in record {
-          printed = answers_text flow before.counts a.answers ++ line;
-          text = inr (
-            in-last-line status line mid last (part e),
-            ends,
-            refl,
-            (
-              status_by after.counts,
-              whole-text view store0 store rests flow before after so.lines (status_by after.counts) (λ text. IsWritten text first mid) none there a refl
-                  faults records,
-            ),
-          );
-          written = cut-last status (answers_text flow before.counts a.answers) line first mid last a.put (part e);
-        };
+        printed = λ relied.
+            let a = served relied in
+            let text = whole-text view store0 store rests flow before after so.lines (status_by after.counts) (λ text. IsWritten text first mid) none
+            there a refl faults records in
+            record {
+              answers = a.answers;
+              last = a.last;
+              are = a.are;
+              of_story = text.of_story;
+              go_well = text.go_well;
+              put = inr (
+                ends,
+                refl,
+                inl (
+                  mid,
+                  subst (λ k. IsWritten (answers_text flow k a.answers) first mid) none a.put,
+                  subst (λ k. IsLineCutAt status (counts_line k) mid last) (a.counted ∙ ap (counts_behind a.answers) none) (part e),
+                ),
+              );
+            };
       });
       begun = begun;
       unharmed = λ tells id e.
@@ -273,18 +255,26 @@ flow-served view rests flow before after store0 store given gives ended status f
       no_root = root;
     }
 
-put-at : (fault : ServeFault) (first last : SinkView) (text : List ℕ) → EndsBefore (stopped_status fault) → IsPutBefore fault first last text
-    → IsPutAt (stopped_status fault) first last text
-put-at Read first last text e p = p
-put-at Write first last text e p = p
-put-at Store first last text e p = absurd e
-put-at serve.NoMemory first last text e p = p
+put-at : (flow : Dataflow) (fault : ServeFault) (first last : SinkView) (answers : List Answer) → EndsBefore (stopped_status fault)
+    → IsPutBefore flow no_counts fault first last answers → IsPutAt flow (stopped_status fault) first last answers
+put-at flow Read first last answers e p = p
+put-at flow Write first last answers e p = p
+put-at flow Store first last answers e p = absurd e
+put-at flow serve.NoMemory first last answers e p = p
+
+-- 6 is told of no other fault
+pub read-alone : (fault : ServeFault) → stopped_status fault ≡ ReadFault → fault ≡ Read
+read-alone Read e = refl
+read-alone Write e = absurd cc
+read-alone Store e = absurd cc
+read-alone serve.NoMemory e = absurd cc
 
 -- it ended before the lines did
 pub flow-stopped : {K : Type 0} (view : K → StoreView) (rests : Bool) (flow : Dataflow) (before : LivePoint) (store0 store : K)
     (given gives : Option (List LineIn)) (ended : Bool) (fault : ServeFault) (first last : SinkView) → before.counts ≡ no_counts
     → before.At (opening flow) [] → (view store0).faults ≡ before.faults
-    → ServesPart rests flow before (view store).records (view store).faults given gives (IsPutBefore fault first last) → EndsBefore (stopped_status fault)
+    → ServesPart rests flow before (view store).records (view store).faults fault given gives
+    (IsPutBefore flow before.counts fault first last) → EndsBefore (stopped_status fault)
     → FlowAnswers view rests flow given gives ended (stopped_status fault) first last
 flow-stopped view rests flow before store0 store given gives ended fault first last none at was so e = record {
   whole = λ w. absurd (not-whole (stopped_status fault) e w);
@@ -292,20 +282,17 @@ flow-stopped view rests flow before store0 store given gives ended fault first l
     lines = so.lines;
     unanswered = so.unanswered;
     one = so.one;
+    none_left = λ read. so.none_left (read-alone fault read);
     gave = so.gave;
     printed = λ relied.
         let a = so.serves (opening flow) [] at (relied store) in record {
-          printed = answers_text flow before.counts a.answers;
-          text = inl (record {
-            answers = a.answers;
-            last = a.last;
-            are = a.are;
-            of_story = a.of_story;
-            go_well = go-well view store0 store before.counts so.counts so.failed a.answers none
-                (subst (λ n. TellsFaults before.counts.faults so.counts.faults n so.failed) (sym was) so.told) so.within a.counted a.unharmed;
-            text = ap (λ counts. answers_text flow counts a.answers) none;
-          });
-          written = put-at fault first last (answers_text flow before.counts a.answers) e a.put;
+          answers = a.answers;
+          last = a.last;
+          are = a.are;
+          of_story = a.of_story;
+          go_well = go-well view store0 store before.counts so.counts so.failed a.answers none
+              (subst (λ n. TellsFaults before.counts.faults so.counts.faults n so.failed) (sym was) so.told) so.within a.counted a.unharmed;
+          put = inl (put-at flow fault first last a.answers e (subst (λ k. IsPutBefore flow k fault first last a.answers) none a.put));
         };
   });
   begun = λ u. not-both (stopped_status fault) e u;
@@ -414,9 +401,16 @@ whole-part view rests flow given gives ended status first last ends all = record
   lines = all.lines;
   unanswered = [];
   one = omega arith;
+  none_left = λ e. refl;
   gave = same-lines all.lines given gives all.gave;
-  printed = λ relied. let p = all.printed relied in
-      record { printed = p.printed; text = inr (tt, ends, refl, (status, p.text)); written = inl p.written };
+  printed = λ relied. let p = all.printed relied in record {
+    answers = p.text.answers;
+    last = p.text.last;
+    are = p.text.are;
+    of_story = p.text.of_story;
+    go_well = p.text.go_well;
+    put = inr (ends, refl, inr (refl, subst (λ text. IsWritten text first last) p.text.text p.written));
+  };
 }
 
 flow-part : {K : Type 0} (view : K → StoreView) (told : Option (List ℕ → Option (List ℕ))) (command : Option LiveCommand)

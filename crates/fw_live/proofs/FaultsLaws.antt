@@ -2,7 +2,7 @@
 use Rattle.std.proofs.Common.{◌≡◌, ℕ, ◌+◌, ◌<◌, ◌≤◌, List, [], ◌∷◌, ◌++◌, Option, Some, None, Result, Ok, Err, refl, sym, ap, subst, ◌∙◌, inl, inr, arith}
 use Rattle.std.proofs.lemmas.Bool.{false≢true}
 use Rattle.std.specs.List.{AllByRecursion}
-use Rattle.std.specs.Prelude.{◌≢◌, IsSome}
+use Rattle.std.specs.Prelude.{◌≢◌, IsErrOf, IsSome}
 use Rattle.fw_keep.specs.Stored.{Records}
 use Rattle.fw_outside.specs.Outside.{one_more}
 use Rattle.fw_running.specs.declared.fault.EngineFault.{EngineFault}
@@ -47,6 +47,23 @@ pub keeping-more : {T : Type 0} (r : Result T LifeFault) (records : Option Recor
     → CountsKeeping r records At before after → before ≤ after
 keeping-more r records At before after (inl e) = life-more r before after e
 keeping-more r records At before after (inr e) = same≤ before after e.0
+
+-- ---- where the store is told to have failed
+
+pub life-failed : {T : Type 0} (r : Result T LifeFault) (n m : ℕ) → m ≡ life_faults_after r n → IsErrOf r life.StoreFault → one_more n ≤ m
+life-failed r n m e is = same≤ (one_more n) m (e ∙ ap (λ x. life_faults_after x n) is)
+
+pub keeping-failed : {T : Type 0} (r : Result T LifeFault) (records : Option Records) (At : Story → Type 0) (before after : ℕ) (story : Story)
+    → CountsKeeping r records At before after → IsErrOf r life.StoreFault → IsSome records → At story → one_more before ≤ after
+keeping-failed r records At before after story (inl e) is told at = life-failed r before after e is
+keeping-failed r records At before after story (inr e) is told at = absurd (e.1 told story at)
+
+-- it failed once more behind that
+pub failed-later : (a b c d : ℕ) → b ≡ a → b ≤ c → one_more c ≤ d → one_more a ≤ d
+failed-later a b c d e f h = omega (arith, e, f, h)
+
+pub failed-after : (a b c : ℕ) → a ≤ b → one_more b ≤ c → one_more a ≤ c
+failed-after a b c e f = omega (arith, e, f)
 
 pub line-more : (a b c d : ℕ) → b ≡ a → b ≤ c → c ≤ d → a ≤ d
 line-more a b c d e f h = omega (arith, e, f, h)

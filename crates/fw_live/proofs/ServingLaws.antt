@@ -1,5 +1,5 @@
 -- Lines are answered, one after the other.
-use Rattle.std.proofs.Common.{◌≡◌, ◌⊎◌, inl, inr, ℕ, ◌≤◌, Bool, List, [], ◌∷◌, ◌++◌, ◌+◌, length, Option, Some, None, option_map, Result, Ok, Err, refl, sym, ap, subst, ◌∙◌, arith}
+use Rattle.std.proofs.Common.{◌≡◌, ◌⊎◌, inl, inr, ℕ, suc, ◌≤◌, Bool, List, [], ◌∷◌, ◌++◌, ◌+◌, length, Option, Some, None, option_map, Result, Ok, Err, refl, sym, ap, subst, ◌∙◌, arith}
 use Rattle.std.proofs.lemmas.List.{append-nil, append_assoc, length-append}
 use Rattle.std.specs.Prelude.{IfErr, IfOk, IfSome, IsErrOf, IsSome, OnOk}
 use Rattle.fw_outside.specs.declared.fault.OutFault.{OutFault}
@@ -26,7 +26,22 @@ use Rattle.fw_live.specs.Faults.{TellsFaults}
 use Rattle.fw_live.specs.Given.{with_line_given}
 use Rattle.fw_live.specs.Life.{AreAnswers, answers_text, counts_behind, kept_behind}
 use Rattle.fw_live.specs.Relies.{IsAskedReliedOn, IsLineReliedOn}
-use Rattle.fw_live.specs.Serving.{AreLinesReliedOn, CountsLines, GivesAtMostOne, GivesMany, HasAnsweredAll, HasServed, IsCutBy, IsPutBefore, Serves, ServesPart, LivePoint, line_faults_after}
+use Rattle.fw_live.specs.Serving.{
+  AreLinesReliedOn,
+  CountsLines,
+  GivesAtMostOne,
+  GivesMany,
+  HasAnsweredAll,
+  HasServed,
+  IsCutBy,
+  IsCutInLast,
+  IsPutBefore,
+  Serves,
+  ServesOne,
+  ServesPart,
+  LivePoint,
+  line_faults_after,
+}
 use Rattle.fw_live.proofs.FaultsLaws.{none-told, same≤, told-more, unharmed-more}
 use Rattle.fw_live.proofs.TakingLaws.{relied-maybe}
 
@@ -116,21 +131,36 @@ pub serves-one : (rests : Bool) (flow : Dataflow) (before after : LivePoint) (li
     → gives ≡ with_line_given line given → TellsFaults before.counts.faults after.counts.faults before.faults after.faults
     → ((story : Story) (kept : List ℕ) → before.At story kept → IsLineReliedOn after.records flow line
     → HasAnswered rests flow story kept (asked_for flow line) before.counts after.counts [] text after.At after.records)
-    → Serves rests flow before after given gives (λ bytes. text ≡ bytes)
+    → ServesOne rests flow before after given gives (λ bytes. text ≡ bytes)
 serves-one rests flow before after line given gives text gave faults answered = record {
-  lines = line ∷ [];
-  gave = gave;
-  faults = faults;
-  serves = λ story kept there relied. let a = answered story kept there relied.0 in record {
-    answers = a.answer ∷ [];
-    last = a.next;
-    are = (a.next, a.answers, refl);
-    put = a.written ∙ sym (append-nil (answer_text flow (saturated (before.counts.lines + 1)) a.answer));
-    counted = a.counted;
-    at = a.at;
-    unharmed = λ told. (a.unharmed told, tt);
+  serves = record {
+    lines = line ∷ [];
+    gave = gave;
+    faults = faults;
+    serves = λ story kept there relied. let a = answered story kept there relied.0 in record {
+      answers = a.answer ∷ [];
+      last = a.next;
+      are = (a.next, a.answers, refl);
+      put = a.written ∙ sym (append-nil (answer_text flow (saturated (before.counts.lines + 1)) a.answer));
+      counted = a.counted;
+      at = a.at;
+      unharmed = λ told. (a.unharmed told, tt);
+    };
   };
+  one = refl;
 }
+
+-- its answer is one
+one-answer : (rests : Bool) (flow : Dataflow) (story : Story) (lines : List LineIn) (answers : List Answer) (last : Story)
+    → AreAnswers rests flow story lines answers last → length lines ≡ 1 → (answer : Answer) × (answers ≡ answer ∷ [])
+one-answer rests flow story [] answers last a n = absurd cc
+one-answer rests flow story (line ∷ lines) [] last a n = absurd a
+one-answer rests flow story (line ∷ []) (x ∷ []) last a n = (x, refl)
+one-answer rests flow story (line ∷ []) (x ∷ y ∷ answers) last a n = absurd a.2
+one-answer rests flow story (line ∷ other ∷ lines) answers last a n = absurd (two (length lines) n)
+  where
+    two : (k : ℕ) → suc (suc k) ≡ 1 → ⊥
+    two k e = omega (arith, e)
 
 -- where lines were answered, and then one more
 two-served : (rests : Bool) (flow : Dataflow) (first second third : LivePoint) (story : Story) (kept : List ℕ) (one other : List LineIn) (text : List ℕ)
@@ -166,19 +196,19 @@ both-served rests flow first second third given gives more text IsPut All one tw
 
 -- the same of a session whose flow and whose manner stayed
 same-serves : (rests rests2 : Bool) (flow flow2 : Dataflow) (before after : LivePoint) (given gives : Option (List LineIn)) (IsPut : List ℕ → Type 0)
-    → rests2 ≡ rests → flow2 ≡ flow → Serves rests2 flow2 before after given gives IsPut → Serves rests flow before after given gives IsPut
+    → rests2 ≡ rests → flow2 ≡ flow → ServesOne rests2 flow2 before after given gives IsPut → ServesOne rests flow before after given gives IsPut
 same-serves rests rests2 flow flow2 before after given gives IsPut r f s =
-    subst (λ d. Serves rests d before after given gives IsPut) f (subst (λ b. Serves b flow2 before after given gives IsPut) r s)
+    subst (λ d. ServesOne rests d before after given gives IsPut) f (subst (λ b. ServesOne b flow2 before after given gives IsPut) r s)
 
 -- one more was answered, and its answer was written
 pub serves-more : (rests rests2 : Bool) (flow flow2 : Dataflow) (first second third : LivePoint) (given gives more : Option (List LineIn)) (text : List ℕ)
     (before between after : SinkView) → rests2 ≡ rests → flow2 ≡ flow
     → Serves rests flow first second given gives (λ bytes. IsWritten bytes before between)
-    → Serves rests2 flow2 second third gives more (λ bytes. text ≡ bytes) → IsWritten text between after
+    → ServesOne rests2 flow2 second third gives more (λ bytes. text ≡ bytes) → IsWritten text between after
     → (IsSome third.records → IsSome second.records) → Serves rests flow first third given more (λ bytes. IsWritten bytes before after)
 serves-more rests rests2 flow flow2 first second third given gives more text before between after r f one two written told =
     both-served rests flow first second third given gives more text (λ bytes. IsWritten bytes before between) (λ bytes. IsWritten bytes before after) one
-    (same-serves rests rests2 flow flow2 second third gives more (λ bytes. text ≡ bytes) r f two)
+    (same-serves rests rests2 flow flow2 second third gives more (λ bytes. text ≡ bytes) r f two).serves
     (λ bytes put. written_more bytes text before between after put written) told
 
 -- ---- where it ends before the lines do
@@ -197,88 +227,135 @@ cut-more one other fault before between after w c =
       refusals = all.refusals;
     }
 
-cut-by : (fault : ServeFault) (one other : List ℕ) (before between after : SinkView) → IsWritten one before between
-    → IsCutBy fault other between after → IsPutBefore fault before after (one ++ other)
-cut-by Read one other before between after w c = absurd c
-cut-by Write one other before between after w c = cut-more one other Failed before between after w c
-cut-by Store one other before between after w c = absurd c
-cut-by NoMemory one other before between after w c = inr (cut-more one other out.NoMemory before between after w c)
+pub same-fault : {T : Type 0} (one two : ServeFault) → IsErrOf {T = T} (Err one) two → one ≡ two
+same-fault one two e = cc
 
-put-before : (fault : ServeFault) (text : List ℕ) (before after : SinkView) → (fault ≡ Write → ⊥)
-    → IsWritten text before after → IsPutBefore fault before after text
-put-before Read text before after n w = w
-put-before Write text before after n w = absurd (n refl)
-put-before Store text before after n w = w
-put-before NoMemory text before after n w = inl w
+pub store-not-cut : (fault : ServeFault) (text : List ℕ) (before after : SinkView) → IsErrOf {T = Unit {0}} (Err fault) Store
+    → IsCutBy fault text before after → ⊥
+store-not-cut Read text before after e c = c
+store-not-cut Write text before after e c = absurd cc
+store-not-cut Store text before after e c = c
+store-not-cut NoMemory text before after e c = absurd cc
 
-answered-all : (rests : Bool) (flow : Dataflow) (before after : LivePoint) (records : Option Records) (story : Story) (kept : List ℕ) (lines : List LineIn)
-    (IsPut All : List ℕ → Type 0) → HasServed rests flow before after story kept lines IsPut → ((text : List ℕ) → IsPut text → All text)
-    → ((st : Story) (k : List ℕ) → after.At st k → IsStory flow st) → (IsSome records → IsSome after.records)
-    → HasAnsweredAll rests flow before.counts after.counts records story lines All
-answered-all rests flow before after records story kept lines IsPut All s put there told = record {
-  answers = s.answers;
-  last = s.last;
-  are = s.are;
-  of_story = there s.last (kept_behind flow kept s.answers) s.at;
-  put = put (answers_text flow before.counts s.answers) s.put;
-  counted = s.counted;
-  unharmed = λ tells. s.unharmed (told tells);
+-- all answers but the last were written, and of that one first bytes
+cut-within : (flow : Dataflow) (counts between : LineCounts) (fault : OutFault) (answers more : List Answer) (text : List ℕ)
+    (before mid after : SinkView) → (one : (answer : Answer) × (more ≡ answer ∷ [])) → between ≡ counts_behind answers counts
+    → IsWritten (answers_text flow counts answers) before mid → text ≡ answers_text flow between more → IsCutOff text fault mid after
+    → IsCutInLast flow counts (answers ++ more) fault before after
+cut-within flow counts between fault answers more text before mid after one counted w e c = record {
+  earlier = answers;
+  last = one.0;
+  are = ap (λ xs. answers ++ xs) one.1;
+  between = mid;
+  written = w;
+  cut = subst (λ bytes. IsCutOff bytes fault mid after)
+      (e ∙ ap (answers_text flow between) one.1 ∙ append-nil (answer_text flow (saturated (between.lines + 1)) one.0)
+      ∙ ap (λ (k : LineCounts). answer_text flow (saturated (k.lines + 1)) one.0) counted) c;
 }
 
+cut-by : (flow : Dataflow) (counts between : LineCounts) (fault : ServeFault) (answers more : List Answer) (text : List ℕ)
+    (before mid after : SinkView) → (one : (answer : Answer) × (more ≡ answer ∷ [])) → between ≡ counts_behind answers counts
+    → IsWritten (answers_text flow counts answers) before mid → text ≡ answers_text flow between more → IsCutBy fault text mid after
+    → IsPutBefore flow counts fault before after (answers ++ more)
+cut-by flow counts between Read answers more text before mid after one counted w e c = absurd c
+cut-by flow counts between Write answers more text before mid after one counted w e c =
+    cut-within flow counts between Failed answers more text before mid after one counted w e c
+cut-by flow counts between Store answers more text before mid after one counted w e c = absurd c
+cut-by flow counts between NoMemory answers more text before mid after one counted w e c =
+    inr (cut-within flow counts between out.NoMemory answers more text before mid after one counted w e c)
+
+put-before : (flow : Dataflow) (counts : LineCounts) (fault : ServeFault) (answers : List Answer) (before after : SinkView) → (fault ≡ Write → ⊥)
+    → IsWritten (answers_text flow counts answers) before after → IsPutBefore flow counts fault before after answers
+put-before flow counts Read answers before after n w = w
+put-before flow counts Write answers before after n w = absurd (n refl)
+put-before flow counts Store answers before after n w = w
+put-before flow counts NoMemory answers before after n w = inl w
+
 -- no answer was begun: the source gave one line more at most
-pub part-before : (rests : Bool) (flow : Dataflow) (first second : LivePoint) (records : Option Records) (faults : ℕ) (given gives more : Option (List LineIn))
-    (fault : ServeFault) (before after : SinkView) → Serves rests flow first second given gives (λ bytes. IsWritten bytes before after)
-    → GivesAtMostOne gives more → (fault ≡ Write → ⊥) → (IsSome records → IsSome second.records) → second.faults ≤ faults
-    → ((st : Story) (k : List ℕ) → second.At st k → IsStory flow st)
-    → ServesPart rests flow first records faults given more (IsPutBefore fault before after)
+pub part-before : (rests : Bool) (flow : Dataflow) (first second : LivePoint) (records : Option Records) (faults : ℕ)
+    (given gives more : Option (List LineIn)) (fault : ServeFault) (before after : SinkView)
+    → Serves rests flow first second given gives (λ bytes. IsWritten bytes before after) → GivesAtMostOne fault gives more → (fault ≡ Write → ⊥)
+    → (IsSome records → IsSome second.records) → second.faults ≤ faults → ((st : Story) (k : List ℕ) → second.At st k → IsStory flow st)
+    → ServesPart rests flow first records faults fault given more (IsPutBefore flow first.counts fault before after)
 part-before rests flow first second records faults given gives more fault before after so next safe told few there = record {
   lines = so.lines;
   unanswered = next.lines;
   one = next.one;
+  none_left = next.none;
   gave = given-more so.lines next.lines given gives more so.gave next.gave;
   counts = second.counts;
   failed = second.faults;
   told = so.faults;
   within = few;
-  serves = λ story kept at relied. answered-all rests flow first second records story kept so.lines (λ bytes. IsWritten bytes before after) (IsPutBefore fault before after)
-      (so.serves story kept at (relied-lines second.records records flow so.lines told relied)) (λ text put. put-before fault text before after safe put) there told;
+  serves = λ story kept at relied.
+      let s = so.serves story kept at (relied-lines second.records records flow so.lines told relied) in record {
+        answers = s.answers;
+        last = s.last;
+        are = s.are;
+        of_story = there s.last (kept_behind flow kept s.answers) s.at;
+        put = put-before flow first.counts fault s.answers before after safe s.put;
+        counted = s.counted;
+        unharmed = λ tells. s.unharmed (told tells);
+      };
+}
+
+-- where lines were answered, and of the answer to one more first bytes were written
+two-cut : (rests : Bool) (flow : Dataflow) (first second third : LivePoint) (story : Story) (kept : List ℕ) (one other : List LineIn)
+    (text : List ℕ) (fault : ServeFault) (before between after : SinkView) → length other ≡ 1
+    → (a : HasServed rests flow first second story kept one (λ bytes. IsWritten bytes before between))
+    → HasServed rests flow second third a.last (kept_behind flow kept a.answers) other (λ bytes. text ≡ bytes) → IsCutBy fault text between after
+    → (IsSome third.records → IsSome second.records) → ((st : Story) (k : List ℕ) → third.At st k → IsStory flow st)
+    → HasAnsweredAll rests flow first.counts third.counts third.records story (one ++ other) (IsPutBefore flow first.counts fault before after)
+two-cut rests flow first second third story kept one other text fault before between after single a b cut told there = record {
+  answers = a.answers ++ b.answers;
+  last = b.last;
+  are = answers-more rests flow story one other a.answers b.answers a.last b.last a.are b.are;
+  of_story = there b.last (kept_behind flow (kept_behind flow kept a.answers) b.answers) b.at;
+  put = cut-by flow first.counts second.counts fault a.answers b.answers text before between after
+      (one-answer rests flow a.last other b.answers b.last b.are single) a.counted a.put b.put cut;
+  counted = b.counted ∙ ap (counts_behind b.answers) a.counted ∙ sym (counts-more a.answers b.answers first.counts);
+  unharmed = λ tells. unharmed-more a.answers b.answers (a.unharmed (told tells)) (b.unharmed tells);
 }
 
 -- an answer was cut off
 pub part-within : (rests rests2 : Bool) (flow flow2 : Dataflow) (first second third : LivePoint) (given gives more : Option (List LineIn))
     (text : List ℕ) (fault : ServeFault) (before between after : SinkView) → rests2 ≡ rests → flow2 ≡ flow
     → Serves rests flow first second given gives (λ bytes. IsWritten bytes before between)
-    → Serves rests2 flow2 second third gives more (λ bytes. text ≡ bytes) → IsCutBy fault text between after
+    → ServesOne rests2 flow2 second third gives more (λ bytes. text ≡ bytes) → IsCutBy fault text between after
     → (IsSome third.records → IsSome second.records) → ((st : Story) (k : List ℕ) → third.At st k → IsStory flow st)
-    → ServesPart rests flow first third.records third.faults given more (IsPutBefore fault before after)
-part-within rests rests2 flow flow2 first second third given gives more text fault before between after r f one two cut told there =
-    let all = both-served rests flow first second third given gives more text (λ bytes. IsWritten bytes before between) (IsPutBefore fault before after) one
-    (same-serves rests rests2 flow flow2 second third gives more (λ bytes. text ≡ bytes) r f two)
-    (λ bytes put. cut-by fault bytes text before between after put cut) told in
+    → ServesPart rests flow first third.records third.faults fault given more (IsPutBefore flow first.counts fault before after)
+part-within rests rests2 flow flow2 first second third given gives more text fault before between after r f one next cut told there =
+    let two = same-serves rests rests2 flow flow2 second third gives more (λ bytes. text ≡ bytes) r f next in
     record {
-      lines = all.lines;
+      lines = one.lines ++ two.serves.lines;
       unanswered = [];
       one = omega arith;
-      gave = all.gave ∙ ap (λ lines. option_map (λ earlier. earlier ++ lines) given) (sym (append-nil all.lines));
+      none_left = λ e. refl;
+      gave = given-more one.lines two.serves.lines given gives more one.gave two.serves.gave
+          ∙ ap (λ lines. option_map (λ earlier. earlier ++ lines) given) (sym (append-nil (one.lines ++ two.serves.lines)));
       counts = third.counts;
       failed = third.faults;
-      told = all.faults;
+      told = told-more first.counts.faults second.counts.faults third.counts.faults first.faults second.faults third.faults one.faults
+          two.serves.faults;
       within = same≤ third.faults third.faults refl;
-      serves = λ story kept at relied. answered-all rests flow first third third.records story kept all.lines (IsPutBefore fault before after) (IsPutBefore fault before after)
-          (all.serves story kept at relied) (λ text put. put) there (λ tells. tells);
+      serves = λ story kept at relied.
+          let a = one.serves story kept at (relied-lines second.records third.records flow one.lines told
+          (relied-first third.records flow one.lines two.serves.lines relied)) in
+          two-cut rests flow first second third story kept one.lines two.serves.lines text fault before between after two.one a
+          (two.serves.serves a.last (kept_behind flow kept a.answers) a.at (relied-second third.records flow one.lines two.serves.lines relied)) cut told
+          there;
     }
 
 -- no line was given
-pub gives-none : (given gives : Option (List LineIn)) → gives ≡ given → GivesAtMostOne given gives
-gives-none given gives e = record { lines = []; one = omega arith; gave = e ∙ given-none given }
+pub gives-none : (fault : ServeFault) (given gives : Option (List LineIn)) → gives ≡ given → GivesAtMostOne fault given gives
+gives-none fault given gives e = record { lines = []; one = omega arith; none = λ read. refl; gave = e ∙ given-none given }
 
--- one line was given
-pub gives-one : (line : LineIn) (given gives : Option (List LineIn)) → gives ≡ with_line_given line given → GivesAtMostOne given gives
-gives-one line given gives e = record { lines = line ∷ []; one = omega arith; gave = e }
-
-pub if-err : {T E : Type 0} (r : Result T E) (P : Type 0) → P → IfErr r (λ _. P)
-if-err (Ok x) P p = tt
-if-err (Err e) P p = p
+-- one line was given, where an answer failed by something else than the source
+pub gives-one : {T : Type 0} (r : Result T ServeFault) (line : LineIn) (given gives : Option (List LineIn)) → (IsErrOf r Read → ⊥)
+    → gives ≡ with_line_given line given → IfErr r (λ fault. GivesAtMostOne fault given gives)
+gives-one (Ok x) line given gives n e = tt
+gives-one (Err fault) line given gives n e =
+    record { lines = line ∷ []; one = omega arith; none = λ read. absurd (n (ap Err read)); gave = e }
 
 pub if-ok-some : {T E : Type 0} (r : Result (Option T) E) (P : Type 0) → P → IfOk r (λ x. IfSome x (λ _. P))
 if-ok-some (Ok None) P p = tt

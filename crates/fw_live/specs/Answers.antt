@@ -1,5 +1,30 @@
 -- What a session answers to a line.
-use Rattle.std.specs.Prelude.{◌≡◌, ◌≢◌, ℕ, ◌+◌, ◌-◌, ◌^◌, min, Bool, true, false, List, [], ◌++◌, length, Option, Some, None, Result, Ok, Err, codes}
+use Rattle.std.specs.Prelude.{
+  ◌≡◌,
+  ◌≢◌,
+  ℕ,
+  ◌+◌,
+  ◌-◌,
+  ◌^◌,
+  min,
+  Bool,
+  true,
+  false,
+  not,
+  if◌then◌else◌,
+  List,
+  [],
+  ◌++◌,
+  length,
+  Option,
+  Some,
+  None,
+  is_some,
+  Result,
+  Ok,
+  Err,
+  codes,
+}
 use Rattle.std.specs.Fmt.{decimal}
 use Rattle.std.specs.Option.{option_or}
 use Rattle.fw_lines.specs.Refusal.{code_text}
@@ -21,11 +46,12 @@ use Rattle.fw_living.specs.Life.{came_in_story}
 
 -- ---- an answer
 
--- what a line came to: what was told of its change, the outcomes of its steps, and how these ended
+-- what a line came to: what was told of its change, the outcomes of its steps, and how these ended; and whether it only looked
 pub record Turn : Type 0 where
   pub told : List ℕ
   pub outcomes : List Outcome
   pub ending : Ending
+  pub looks : Bool
 
 -- an answer: the line breaks a rule; or what it came to
 pub data Answer : Type 0 where
@@ -126,10 +152,11 @@ IsUnharmed (turned turn) = (id : ℕ) → turn.ending ≢ spoiled id
 
 -- ---- what is kept
 
--- the lines that are kept behind an answer: those of what the steps of the line showed; where it is refused, those that were kept before
+-- the lines that are kept behind an answer: those of what the steps of the line showed; where it is refused or only looked, those that were
+-- kept before
 abbrev pub lines_kept : Dataflow → List ℕ → Answer → List ℕ
 lines_kept flow kept (refused rule) = kept
-lines_kept flow kept (turned turn) = outcomes_text flow turn.outcomes
+lines_kept flow kept (turned turn) = if turn.looks then kept else outcomes_text flow turn.outcomes
 
 -- ---- which answer it is
 
@@ -156,9 +183,21 @@ rests_behind rests (feeds s recs) = rests
 rests_behind rests (closes s) = rests
 rests_behind rests shows = false
 
+-- whether a change is none, or a look, behind which no steps to rest follow
+abbrev pub is_quiet : Bool → Change → Bool
+is_quiet rests none = not rests
+is_quiet rests (feeds s recs) = false
+is_quiet rests (closes s) = false
+is_quiet rests shows = true
+
+-- whether a line only looks: it asks for no batch, for no end of an input, and for no step
+abbrev pub is_look : Bool → Asked → Bool
+is_look rests asked = if is_some asked.item then false else is_quiet rests asked.change
+
 -- From a story what a line asks for came to this, and leads to the next one.
 pub record Turns (rests : Bool) (flow : Dataflow) (story : Story) (asked : Asked) (turn : Turn) (next : Story) : Type 0 where
   pub told : turn.told ≡ change_text flow story asked.change
+  pub looks : turn.looks ≡ is_look rests asked
   pub ends : EndsBoth flow (after_change asked.change story) asked.item (rest_item (rests_behind rests asked.change)) turn.ending turn.outcomes next
 
 -- by what a line asks for: it is refused, and the story stays; or it comes to this

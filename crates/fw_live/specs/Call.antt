@@ -20,7 +20,7 @@ use Rattle.fw_live.specs.declared.fault.ServeFault.TheVariants as serve
 use Rattle.fw_live.specs.Answers.{Answer, IsFaultless, IsUnharmed}
 use Rattle.fw_live.specs.Asked.{LineIn}
 use Rattle.fw_live.specs.Life.{AreAnswers, answers_text, counts_behind, counts_line, no_counts}
-use Rattle.fw_live.specs.Serving.{AreLinesReliedOn, LinesFailed}
+use Rattle.fw_live.specs.Serving.{AreLinesReliedOn, IsCutInLast, LinesFailed}
 use Rattle.fw_live.specs.Words.{LiveCommand}
 
 -- ---- how it ends
@@ -53,12 +53,6 @@ abbrev pub EndsQuiet : Status → Type 0
 EndsQuiet ReadFault = Unit {0}
 EndsQuiet NoMemory = Unit {0}
 EndsQuiet status = ⊥
-
--- one that ends so may have ended in its last line: the output failed, or memory was refused
-abbrev pub EndsInLastLine : Status → Type 0
-EndsInLastLine WriteFault = Unit {0}
-EndsInLastLine NoMemory = Unit {0}
-EndsInLastLine status = ⊥
 
 -- one that ends so did not begin: its words are bad, or the text of its flow is refused
 abbrev pub EndsUnbegun : Status → Type 0
@@ -97,17 +91,8 @@ pub record GoWellOver {K : Type 0} (view : K → StoreView) (answers : List Answ
 
 -- ---- what is printed
 
--- The text is that of the answers to these lines, from the opening of a session on, up to a story too.
-pub record IsAnswersText {K : Type 0} (view : K → StoreView) (rests : Bool) (flow : Dataflow) (lines : List LineIn) (printed : List ℕ)
-    : Type 0 where
-  pub answers : List Answer
-  pub last : Story
-  pub are : AreAnswers rests flow (opening flow) lines answers last
-  pub of_story : IsStory flow last
-  pub go_well : GoWellOver view answers
-  pub text : printed ≡ answers_text flow no_counts answers
-
--- The text is that, and behind it the line of what was counted, which the status tells too.
+-- The text is that of the answers to these lines, from the opening of a session on, up to a story too, and behind it the line of what was
+-- counted, which the status tells too.
 pub record IsLiveText {K : Type 0} (view : K → StoreView) (rests : Bool) (flow : Dataflow) (lines : List LineIn) (status : Status)
     (printed : List ℕ) : Type 0 where
   pub answers : List Answer
@@ -130,12 +115,13 @@ pub record AnswersAll {K : Type 0} (view : K → StoreView) (rests : Bool) (flow
   pub printed : AreReliedOnOver view flow lines
       → WritesText (IsLiveText view rests flow lines status) (λ text. IsWritten text before after)
 
--- how much of it was written where the call ends so before
-abbrev pub IsPutAt : Status → SinkView → SinkView → List ℕ → Type 0
-IsPutAt ReadFault before after text = IsWritten text before after
-IsPutAt WriteFault before after text = IsCutOff text out.Failed before after
-IsPutAt NoMemory before after text = IsWritten text before after ⊎ IsCutOff text out.NoMemory before after
-IsPutAt status before after text = ⊥
+-- how much of these answers was written where the call ends so before: all; or all but the last, and of that one first bytes
+abbrev pub IsPutAt : Dataflow → Status → SinkView → SinkView → List Answer → Type 0
+IsPutAt flow ReadFault before after answers = IsWritten (answers_text flow no_counts answers) before after
+IsPutAt flow WriteFault before after answers = IsCutInLast flow no_counts answers out.Failed before after
+IsPutAt flow NoMemory before after answers =
+    IsWritten (answers_text flow no_counts answers) before after ⊎ IsCutInLast flow no_counts answers out.NoMemory before after
+IsPutAt flow status before after answers = ⊥
 
 -- the line was cut off where a call ends so
 abbrev pub IsLineCutAt : Status → List ℕ → SinkView → SinkView → Type 0
@@ -143,20 +129,37 @@ IsLineCutAt WriteFault line before after = IsCutOff line out.Failed before after
 IsLineCutAt NoMemory line before after = IsCutOff line out.NoMemory before after
 IsLineCutAt status line before after = ⊥
 
--- What is printed of these lines where the call ends so before: their answers; or, where all that came were answered, the last line too.
-abbrev pub IsPartText : {K : Type 0} → (K → StoreView) → Bool → Dataflow → List LineIn → List LineIn → Bool → Status → List ℕ → Type 0
-IsPartText view rests flow lines unanswered ended status text = IsAnswersText view rests flow lines text
-    ⊎ (EndsInLastLine status × (ended ≡ true) × (unanswered ≡ []) × ((end : Status) × IsLiveText view rests flow lines end text))
+-- these answers were written, and of the line of what was counted first bytes; or at 10 all of it
+abbrev pub IsEndPutAt : Dataflow → Status → SinkView → SinkView → List Answer → Type 0
+IsEndPutAt flow status before after answers =
+    ((between : SinkView) × IsWritten (answers_text flow no_counts answers) before between
+    × IsLineCutAt status (counts_line (counts_behind answers no_counts)) between after)
+    ⊎ ((status ≡ NoMemory) × IsWritten (answers_text flow no_counts answers ++ counts_line (counts_behind answers no_counts)) before after)
 
--- These lines came in, and perhaps one more; and of what is printed of them this much was written.
+-- How much was written of the answers to these lines where the call ends so before; or, where all that came were answered, of the last line too.
+abbrev pub IsPartPut : Dataflow → List LineIn → Bool → Status → SinkView → SinkView → List Answer → Type 0
+IsPartPut flow unanswered ended status before after answers = IsPutAt flow status before after answers
+    ⊎ ((ended ≡ true) × (unanswered ≡ []) × IsEndPutAt flow status before after answers)
+
+-- From the opening of a session on these lines were answered, up to a story too, and of the answers this is true.
+pub record PutsAnswers {K : Type 0} (view : K → StoreView) (rests : Bool) (flow : Dataflow) (lines : List LineIn) (IsPut : List Answer → Type 0)
+    : Type 0 where
+  pub answers : List Answer
+  pub last : Story
+  pub are : AreAnswers rests flow (opening flow) lines answers last
+  pub of_story : IsStory flow last
+  pub go_well : GoWellOver view answers
+  pub put : IsPut answers
+
+-- These lines came in, and perhaps one more, but none where the source of lines failed; and of what is printed of them this much was written.
 pub record AnswersPart {K : Type 0} (view : K → StoreView) (rests : Bool) (flow : Dataflow) (given gives : Option (List LineIn)) (ended : Bool)
     (status : Status) (before after : SinkView) : Type 0 where
   pub lines : List LineIn
   pub unanswered : List LineIn
   pub one : length unanswered ≤ 1
+  pub none_left : status ≡ ReadFault → unanswered ≡ []
   pub gave : gives ≡ option_map (λ earlier. earlier ++ (lines ++ unanswered)) given
-  pub printed : AreReliedOnOver view flow lines
-      → WritesText (IsPartText view rests flow lines unanswered ended status) (IsPutAt status before after)
+  pub printed : AreReliedOnOver view flow lines → PutsAnswers view rests flow lines (IsPartPut flow unanswered ended status before after)
 
 -- no line came in, and nothing was written
 abbrev pub StaysQuiet : Option (List LineIn) → Option (List LineIn) → SinkView → SinkView → Type 0
@@ -201,8 +204,8 @@ pub record LiveAnswers {K : Type 0} (view : K → StoreView) (told : Option (Lis
   -- 3: the text of the flow breaks this rule first, on this line.
   pub refused : (refusal : Refusal) → status ≡ Refused refusal → HasFlowRefused told command refusal
   -- 6: nothing was done, as the folder failed; or the source of lines failed, and what came before was answered, and the answers written.
-  -- 7: the output failed, and first bytes of what is printed were written. 10: at any time; nothing was written, or first bytes, or all.
-  -- At 6 the last line is not among what is printed.
+  -- 7: the output failed, and all answers but the last were written, and first bytes of that one; or all, and first bytes of the last line.
+  -- 10: at any time; nothing was written, or so much, or all.
   pub part : EndsBefore status → (EndsQuiet status × StaysQuiet given gives before after)
       ⊎ HasFlowSo told command (λ rests flow. AnswersPart view rests flow given gives ended status before after)
   -- 2, 3: no line came in, and nothing was written.

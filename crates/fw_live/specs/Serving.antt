@@ -1,6 +1,7 @@
 -- The lines that come in are answered, and the answers written.
-use Rattle.std.specs.Prelude.{◌≡◌, ◌⊎◌, ◌≤◌, ◌-◌, ◌^◌, ℕ, Bool, List, ◌++◌, length, Option, IsSome, option_map}
+use Rattle.std.specs.Prelude.{◌≡◌, ◌⊎◌, ◌≤◌, ◌+◌, ◌-◌, ◌^◌, ℕ, Bool, List, [], ◌∷◌, ◌++◌, length, Option, IsSome, option_map}
 use Rattle.std.specs.List.{AllByRecursion}
+use Rattle.fw_outside.specs.declared.fault.OutFault.{OutFault}
 use Rattle.fw_outside.specs.declared.fault.OutFault.TheVariants as out
 use Rattle.fw_outside.specs.Outside.{SinkView, one_more}
 use Rattle.fw_flow.specs.Dataflow.{Dataflow}
@@ -12,7 +13,7 @@ use Rattle.fw_living.specs.declared.fault.LifeFault.TheVariants as life
 use Rattle.fw_live.specs.declared.counts.LineCounts.{LineCounts}
 use Rattle.fw_live.specs.declared.fault.ServeFault.{ServeFault}
 use Rattle.fw_live.specs.declared.fault.ServeFault.TheVariants.{Read, Write, Store, NoMemory}
-use Rattle.fw_live.specs.Answers.{Answer, IsUnharmed}
+use Rattle.fw_live.specs.Answers.{Answer, answer_text, saturated, IsUnharmed}
 use Rattle.fw_live.specs.Asked.{LineIn}
 use Rattle.fw_live.specs.Faults.{TellsFaults}
 use Rattle.fw_live.specs.Life.{AreAnswers, answers_text, counts_behind, kept_behind}
@@ -52,6 +53,12 @@ pub record Serves (rests : Bool) (flow : Dataflow) (before after : LivePoint) (g
   pub serves : (story : Story) (kept : List ℕ) → before.At story kept → AreLinesReliedOn after.records flow lines
       → HasServed rests flow before after story kept lines IsPut
 
+-- the same of one line
+pub record ServesOne (rests : Bool) (flow : Dataflow) (before after : LivePoint) (given gives : Option (List LineIn)) (IsPut : List ℕ → Type 0)
+    : Type 0 where
+  pub serves : Serves rests flow before after given gives IsPut
+  pub one : length serves.lines ≡ 1
+
 -- ---- where it ends before the lines do
 
 -- the same fault of a session
@@ -60,32 +67,43 @@ fault_of life.NotFed = NoMemory
 fault_of life.StoreFault = Store
 fault_of life.NoMemory = NoMemory
 
--- how much of the answers was written where it ended so: first bytes of them, or all
-abbrev pub IsPutBefore : ServeFault → SinkView → SinkView → List ℕ → Type 0
-IsPutBefore Read before after text = IsWritten text before after
-IsPutBefore Write before after text = IsCutOff text out.Failed before after
-IsPutBefore Store before after text = IsWritten text before after
-IsPutBefore NoMemory before after text = IsWritten text before after ⊎ IsCutOff text out.NoMemory before after
+-- Of these answers all but the last were written, and of that one first bytes; then what is outside failed so.
+pub record IsCutInLast (flow : Dataflow) (counts : LineCounts) (answers : List Answer) (fault : OutFault) (before after : SinkView) : Type 0 where
+  pub earlier : List Answer
+  pub last : Answer
+  pub are : answers ≡ earlier ++ last ∷ []
+  pub between : SinkView
+  pub written : IsWritten (answers_text flow counts earlier) before between
+  pub cut : IsCutOff (answer_text flow (saturated ((counts_behind earlier counts).lines + 1)) last) fault between after
 
--- From a story the lines were answered, up to a story too, and of the text of the answers this is true; so they were counted. A store that
--- tells its records then damaged none.
+-- how much of the answers was written where it ended so: all; or all but the last, and of that one first bytes
+abbrev pub IsPutBefore : Dataflow → LineCounts → ServeFault → SinkView → SinkView → List Answer → Type 0
+IsPutBefore flow counts Read before after answers = IsWritten (answers_text flow counts answers) before after
+IsPutBefore flow counts Write before after answers = IsCutInLast flow counts answers out.Failed before after
+IsPutBefore flow counts Store before after answers = IsWritten (answers_text flow counts answers) before after
+IsPutBefore flow counts NoMemory before after answers =
+    IsWritten (answers_text flow counts answers) before after ⊎ IsCutInLast flow counts answers out.NoMemory before after
+
+-- From a story the lines were answered, up to a story too, and of the answers this is true; so they were counted. A store that tells its
+-- records then damaged none.
 pub record HasAnsweredAll (rests : Bool) (flow : Dataflow) (before after : LineCounts) (records : Option Records) (story : Story)
-    (lines : List LineIn) (IsPut : List ℕ → Type 0) : Type 0 where
+    (lines : List LineIn) (IsPut : List Answer → Type 0) : Type 0 where
   pub answers : List Answer
   pub last : Story
   pub are : AreAnswers rests flow story lines answers last
   pub of_story : IsStory flow last
-  pub put : IsPut (answers_text flow before answers)
+  pub put : IsPut answers
   pub counted : after ≡ counts_behind answers before
   pub unharmed : IsSome records → AllByRecursion IsUnharmed answers
 
--- The source gave these lines, and perhaps one more; and they were answered, as far as their steps can be relied on. As often as the store had
--- failed in them, so many faults were told; it may have failed in the one more too.
-pub record ServesPart (rests : Bool) (flow : Dataflow) (before : LivePoint) (records : Option Records) (faults : ℕ)
-    (given gives : Option (List LineIn)) (IsPut : List ℕ → Type 0) : Type 0 where
+-- The source gave these lines, and perhaps one more, but none where it failed; and they were answered, as far as their steps can be relied on. As
+-- often as the store had failed in them, so many faults were told; it may have failed in the one more too.
+pub record ServesPart (rests : Bool) (flow : Dataflow) (before : LivePoint) (records : Option Records) (faults : ℕ) (fault : ServeFault)
+    (given gives : Option (List LineIn)) (IsPut : List Answer → Type 0) : Type 0 where
   pub lines : List LineIn
   pub unanswered : List LineIn
   pub one : length unanswered ≤ 1
+  pub none_left : fault ≡ Read → unanswered ≡ []
   pub gave : gives ≡ option_map (λ earlier. earlier ++ (lines ++ unanswered)) given
   pub counts : LineCounts
   pub failed : ℕ
@@ -100,10 +118,11 @@ IsCutBy Write text before after = IsCutOff text out.Failed before after
 IsCutBy NoMemory text before after = IsCutOff text out.NoMemory before after
 IsCutBy fault text before after = ⊥
 
--- the source gave no line more, or one
-pub record GivesAtMostOne (given gives : Option (List LineIn)) : Type 0 where
+-- the source gave no line more, or one; none where it failed
+pub record GivesAtMostOne (fault : ServeFault) (given gives : Option (List LineIn)) : Type 0 where
   pub lines : List LineIn
   pub one : length lines ≤ 1
+  pub none : fault ≡ Read → lines ≡ []
   pub gave : gives ≡ option_map (λ earlier. earlier ++ lines) given
 
 -- the source gave so many lines more

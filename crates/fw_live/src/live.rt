@@ -1,8 +1,9 @@
 //! A session that answers lines.
-ghost use Rattle.std.specs.Prelude.{◌≡◌, ℕ, List, Some, None, false, IsErrOf, IsSome, IfOk};
+ghost use Rattle.std.specs.Prelude.{◌≡◌, ◌≤◌, ℕ, List, Some, None, false, IsErrOf, IsSome, IfOk};
 ghost use Rattle.fw_flow.specs.Sources.{sources_of};
 ghost use Rattle.fw_engine.specs.Engine.{flow_of};
 ghost use Rattle.fw_keep.specs.Stored.{IsEmptyStore};
+ghost use Rattle.fw_outside.specs.Outside.{one_more};
 ghost use Rattle.fw_session.specs.Session.{IsAt};
 ghost use Rattle.fw_session.specs.Story.{Story, opening};
 ghost use Rattle.fw_live.specs.Answered.{HasAnswered};
@@ -88,6 +89,8 @@ impl<S: Living + Drop> Live<S> {
         ensures left { (story : Story) → S.at self.old.session story → S.may_restart self.old.session → IsSome (S.records self.new.session)
             → S.may_restart self.new.session }
         ensures faults { FaultsBy result self.old.counts.faults self.new.counts.faults (S.fault_count self.old.session) (S.fault_count self.new.session) }
+        ensures store_failed { (story : Story) → S.at self.old.session story → IsSome (S.records self.new.session) → IsErrOf result LifeFault.StoreFault
+            → one_more (S.fault_count self.old.session) ≤ S.fault_count self.new.session }
         ensures lasts { S.lasts ≡ false → IsErrOf result LifeFault.StoreFault → ⊥ }
     {
         let heard = read_line(
@@ -116,6 +119,8 @@ impl<S: Living + Drop> Live<S> {
         ensures left { (story : Story) → S.at self.old.session story → S.may_restart self.old.session → IsSome (S.records self.new.session)
             → S.may_restart self.new.session }
         ensures faults { FaultsBy result self.old.counts.faults self.new.counts.faults (S.fault_count self.old.session) (S.fault_count self.new.session) }
+        ensures store_failed { (story : Story) → S.at self.old.session story → IsSome (S.records self.new.session) → IsErrOf result LifeFault.StoreFault
+            → one_more (S.fault_count self.old.session) ≤ S.fault_count self.new.session }
         ensures lasts { S.lasts ≡ false → IsErrOf result LifeFault.StoreFault → ⊥ }
     {
         self.answer_heard(Err(LineRule::Length), into)
@@ -139,6 +144,8 @@ impl<S: Living + Drop> Live<S> {
         ensures left { (story : Story) → S.at self.old.session story → S.may_restart self.old.session → IsSome (S.records self.new.session)
             → S.may_restart self.new.session }
         ensures faults { FaultsBy result self.old.counts.faults self.new.counts.faults (S.fault_count self.old.session) (S.fault_count self.new.session) }
+        ensures store_failed { (story : Story) → S.at self.old.session story → IsSome (S.records self.new.session) → IsErrOf result LifeFault.StoreFault
+            → one_more (S.fault_count self.old.session) ≤ S.fault_count self.new.session }
         ensures lasts { S.lasts ≡ false → IsErrOf result LifeFault.StoreFault → ⊥ }
     {
         self.counts.count_line();

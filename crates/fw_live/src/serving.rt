@@ -2,13 +2,14 @@
 ghost use Rattle.std.specs.Prelude.{◌≡◌, ◌⊎◌, ◌≤◌, ℕ, List, Option, Ok, Some, None, false, true, IsErr, IsErrOf, IsSome, IfErr, IfOk, IfSome, OnOk};
 ghost use Rattle.fw_command.specs.Writing.{IsWritten};
 ghost use Rattle.fw_engine.specs.Engine.{flow_of};
+ghost use Rattle.fw_outside.specs.Outside.{one_more};
 ghost use Rattle.fw_run.specs.declared.status.Status.TheVariants as status;
 ghost use Rattle.fw_run.specs.Call.{CountsWrites};
 ghost use Rattle.fw_session.specs.Story.{Story, IsStory};
 ghost use Rattle.fw_live.specs.Asked.{LineIn};
 ghost use Rattle.fw_live.specs.Call.{stopped_status};
 ghost use Rattle.fw_live.specs.Given.{gives_after, with_line_given};
-ghost use Rattle.fw_live.specs.Serving.{CountsLines, GivesAtMostOne, GivesMany, IsCutBy, IsPutBefore, Serves, ServesPart, line_faults_after};
+ghost use Rattle.fw_live.specs.Serving.{CountsLines, GivesAtMostOne, GivesMany, IsCutBy, IsPutBefore, Serves, ServesOne, ServesPart, line_faults_after};
 
 use crate::asked::LINE_LIMIT;
 use crate::fault::ServeFault;
@@ -60,12 +61,17 @@ pub fn serve<S: Living + Drop, L: LineSource, O: Sink>(
           faults = S.fault_count live.old.session;
           At = λ story kept. S.at live.old.session story × S.keeps live.old.session story kept;
         })
-        (S.records live.new.session) (S.fault_count live.new.session) (L.given input.old) (L.given input.new) (IsPutBefore fault (O.view out.old) (O.view out.new))) }
+        (S.records live.new.session) (S.fault_count live.new.session) fault (L.given input.old) (L.given input.new)
+        (IsPutBefore (flow_of (S.engine_of live.old.session)) live.old.counts fault (O.view out.old) (O.view out.new))) }
     // How often the source of lines failed, and the output.
     ensures lines { OnOk result (L.fault_count input.new ≡ L.fault_count input.old) }
     ensures lines_failed { IfErr result (λ fault. CountsLines fault (L.given input.old) (L.given input.new) (L.fault_count input.old) (L.fault_count input.new)) }
     ensures writes { OnOk result (CountsWrites status.Done (O.view out.old) (O.view out.new)) }
     ensures writes_failed { IfErr result (λ fault. CountsWrites (stopped_status fault) (O.view out.old) (O.view out.new)) }
+    // Where the store is told to have failed it did, as it tells its records.
+    ensures store_failed { (story : Story) (kept : List ℕ) → S.at live.old.session story → S.keeps live.old.session story kept
+        → IsSome (S.records live.new.session) → IsErrOf result ServeFault.Store
+        → one_more (S.fault_count live.old.session) ≤ S.fault_count live.new.session }
     ensures lasts { S.lasts ≡ false → IsErrOf result ServeFault.Store → ⊥ }
 {
     let mut line = Vec::new(alloc);
@@ -101,7 +107,7 @@ fn answer_next<S: Living + Drop, L: LineSource>(
     ensures left { (story : Story) → S.at live.old.session story → S.may_restart live.old.session → IsSome (S.records live.new.session)
         → S.may_restart live.new.session }
     ensures end { result ≡ Ok None → (live.new ≡ live.old) × (L.given input.new ≡ L.given input.old) × (L.ended input.new ≡ true) }
-    ensures answered { IfOk result (λ answer. IfSome answer (λ text. Serves live.old.rests (flow_of (S.engine_of live.old.session))
+    ensures answered { IfOk result (λ answer. IfSome answer (λ text. ServesOne live.old.rests (flow_of (S.engine_of live.old.session))
         (record {
           counts = live.old.counts;
           records = S.records live.old.session;
@@ -116,11 +122,13 @@ fn answer_next<S: Living + Drop, L: LineSource>(
         })
         (L.given input.old) (L.given input.new) (λ bytes. text.items ≡ bytes))) }
     ensures one { IfOk result (λ answer. IfSome answer (λ text. GivesMany 1 (L.given input.old) (L.given input.new))) }
-    ensures unanswered { IfErr result (λ fault. GivesAtMostOne (L.given input.old) (L.given input.new)) }
+    ensures unanswered { IfErr result (λ fault. GivesAtMostOne fault (L.given input.old) (L.given input.new)) }
     ensures lines { OnOk result (L.fault_count input.new ≡ L.fault_count input.old) }
     ensures lines_failed { IfErr result (λ fault. L.fault_count input.new ≡ line_faults_after fault (L.fault_count input.old)) }
     ensures no_write { IsErrOf result ServeFault.Write → ⊥ }
     ensures failed { IfErr result (λ fault. S.fault_count live.old.session ≤ S.fault_count live.new.session) }
+    ensures store_failed { (story : Story) → S.at live.old.session story → IsSome (S.records live.new.session) → IsErrOf result ServeFault.Store
+        → one_more (S.fault_count live.old.session) ≤ S.fault_count live.new.session }
     ensures lasts { S.lasts ≡ false → IsErrOf result ServeFault.Store → ⊥ }
 {
     let next = next_line(input, line)?;
@@ -145,7 +153,7 @@ fn answer_line<S: Living + Drop>(
         → S.may_restart live.new.session }
     ensures some { result ≡ Ok None → ⊥ }
     ensures answered { (given : Option (List LineIn)) → IfOk result (λ answer. IfSome answer (λ text.
-        Serves live.old.rests (flow_of (S.engine_of live.old.session))
+        ServesOne live.old.rests (flow_of (S.engine_of live.old.session))
         (record {
           counts = live.old.counts;
           records = S.records live.old.session;
@@ -162,6 +170,8 @@ fn answer_line<S: Living + Drop>(
     ensures no_read { IsErrOf result ServeFault.Read → ⊥ }
     ensures no_write { IsErrOf result ServeFault.Write → ⊥ }
     ensures failed { IfErr result (λ fault. S.fault_count live.old.session ≤ S.fault_count live.new.session) }
+    ensures store_failed { (story : Story) → S.at live.old.session story → IsSome (S.records live.new.session) → IsErrOf result ServeFault.Store
+        → one_more (S.fault_count live.old.session) ≤ S.fault_count live.new.session }
     ensures lasts { S.lasts ≡ false → IsErrOf result ServeFault.Store → ⊥ }
 {
     let mut answer = Vec::new(alloc);
@@ -182,7 +192,7 @@ fn answer_long<S: Living + Drop>(
         → S.may_restart live.new.session }
     ensures some { result ≡ Ok None → ⊥ }
     ensures answered { (given : Option (List LineIn)) → IfOk result (λ answer. IfSome answer (λ text.
-        Serves live.old.rests (flow_of (S.engine_of live.old.session))
+        ServesOne live.old.rests (flow_of (S.engine_of live.old.session))
         (record {
           counts = live.old.counts;
           records = S.records live.old.session;
@@ -199,6 +209,8 @@ fn answer_long<S: Living + Drop>(
     ensures no_read { IsErrOf result ServeFault.Read → ⊥ }
     ensures no_write { IsErrOf result ServeFault.Write → ⊥ }
     ensures failed { IfErr result (λ fault. S.fault_count live.old.session ≤ S.fault_count live.new.session) }
+    ensures store_failed { (story : Story) → S.at live.old.session story → IsSome (S.records live.new.session) → IsErrOf result ServeFault.Store
+        → one_more (S.fault_count live.old.session) ≤ S.fault_count live.new.session }
     ensures lasts { S.lasts ≡ false → IsErrOf result ServeFault.Store → ⊥ }
 {
     let mut answer = Vec::new(alloc);

@@ -1,9 +1,9 @@
 //! What a line asks for is done, and answered.
-ghost use Rattle.std.specs.Prelude.{◌≡◌, ℕ, ◌++◌, [], false, length, List, IsErr, IsErrOf, IsSome, IfOk, OnOk};
+ghost use Rattle.std.specs.Prelude.{◌≡◌, ◌≤◌, ℕ, ◌++◌, [], false, length, List, IsErr, IsErrOf, IsSome, IfOk, OnOk};
 ghost use Rattle.fw_engine.specs.Engine.{flow_of};
 ghost use Rattle.fw_session.specs.Story.{Story};
 ghost use Rattle.fw_living.specs.Life.{came_in_story, life_faults_after, CountsKeeping};
-ghost use Rattle.fw_live.specs.Answered.{HasTurned};
+ghost use Rattle.fw_live.specs.Answered.{HasTurned, look_text};
 ghost use Rattle.fw_live.specs.Answers.{after_change, change_text, counts_ended, ending_text};
 ghost use Rattle.fw_live.specs.Answers as answers;
 ghost use Rattle.fw_live.specs.Asked as spec;
@@ -11,6 +11,8 @@ ghost use Rattle.fw_live.specs.Asked.{change_fault, closes, feeds};
 ghost use Rattle.fw_live.specs.Faults.{failed_times, more_by, FaultsBy};
 ghost use Rattle.fw_live.specs.Reading.{change_in, heard_in, read_in, first_item};
 ghost use Rattle.fw_live.specs.Relies.{EndsSo, IsMaybeReliedOn};
+ghost use Rattle.fw_live.specs.Taken.{all};
+ghost use Rattle.fw_outside.specs.Outside.{one_more};
 
 use crate::asked::{Asked, Change};
 use crate::counts::{LineCounts, TurnCounts};
@@ -80,7 +82,7 @@ fn close_fault<S: Living>(session: &S, source: NodeId) -> Option<LineRule>
     }
 }
 
-/// Does what a line asks for, keeps it, and answers it; and counts it.
+/// Does what a line asks for, keeps it, and answers it; and counts it. Where the line only looks, there is nothing to keep.
 pub(crate) fn turn<S: Living>(
     alloc: Global,
     session: &mut S,
@@ -94,9 +96,81 @@ pub(crate) fn turn<S: Living>(
     ensures texts { S.digests_of session.new ≡ S.digests_of session.old }
     ensures left { (story : Story) → S.at session.old story → S.may_restart session.old → IsSome (S.records session.new) → S.may_restart session.new }
     ensures faults { FaultsBy result counts.old.faults counts.new.faults (S.fault_count session.old) (S.fault_count session.new) }
+    ensures store_failed { (story : Story) → S.at session.old story → IsSome (S.records session.new) → IsErrOf result LifeFault.StoreFault
+        → one_more (S.fault_count session.old) ≤ S.fault_count session.new }
     ensures lasts { S.lasts ≡ false → IsErrOf result LifeFault.StoreFault → ⊥ }
-    ensures turned { (story : Story) → S.at session.old story → IsMaybeReliedOn (S.records session.new) (first_item asked.now.items)
-        → IfOk result (λ _. HasTurned rests (flow_of (S.engine_of session.old)) story (read_in asked.now) counts.old counts.new into.old.items
+    ensures turned { (story : Story) (kept : List ℕ) → S.at session.old story → S.keeps session.old story kept
+        → IsMaybeReliedOn (S.records session.new) (first_item asked.now.items)
+        → IfOk result (λ _. HasTurned rests (flow_of (S.engine_of session.old)) story kept (read_in asked.now) counts.old counts.new into.old.items
+        into.new.items (λ next lines. S.at session.new next × S.keeps session.new next lines) (S.records session.new)) }
+    ensures lines { counts.new.lines ≡ counts.old.lines }
+{
+    if is_look(asked, rests) {
+        counts.count_turn(TurnCounts::new());
+        look(alloc, session, &asked.change, into)?;
+        return Ok(());
+    }
+    act(alloc, session, asked, rests, counts, into)
+}
+
+// Whether a line only looks: it asks for no batch, for no end of an input, and for no step.
+fn is_look(asked: &Asked, rests: bool) -> bool
+    ensures { result ≡ answers.is_look rests (read_in asked.now) }
+{
+    match asked.items.as_slice() {
+        [] => is_quiet(&asked.change, rests),
+        [_, ..] => false,
+    }
+}
+
+// Whether a change is none, or a look, behind which no steps to rest follow.
+fn is_quiet(change: &Change, rests: bool) -> bool
+    ensures { result ≡ answers.is_quiet rests (change_in change.now) }
+{
+    match change {
+        Change::Nothing => !rests,
+        Change::Feed(_, _) | Change::Close(_) => false,
+        Change::Show => true,
+    }
+}
+
+// Tells where the session stands, if that was asked, and that no step was done.
+fn look<S: Living>(
+    alloc: Global,
+    session: &S,
+    change: &Change,
+    into: &mut Vec<u8>,
+) -> Result<(), AllocError>
+    ensures { (story : Story) → S.at session.now story → OnOk result (into.new.items ≡ into.old.items
+        ++ (look_text (flow_of (S.engine_of session.now)) story (change_in change.now) ++ ending_text all 0)) }
+{
+    match change {
+        Change::Show => write_standing(alloc, session, into)?,
+        _ => {}
+    }
+    write_done(alloc, 0, into)
+}
+
+// Does what a line asks for, keeps it, and answers it; and counts it.
+fn act<S: Living>(
+    alloc: Global,
+    session: &mut S,
+    asked: &Asked,
+    rests: bool,
+    counts: &mut LineCounts,
+    into: &mut Vec<u8>,
+) -> Result<(), LifeFault>
+    ensures flow { flow_of (S.engine_of session.new) ≡ flow_of (S.engine_of session.old) }
+    ensures told_before { IsSome (S.records session.new) → IsSome (S.records session.old) }
+    ensures texts { S.digests_of session.new ≡ S.digests_of session.old }
+    ensures left { (story : Story) → S.at session.old story → S.may_restart session.old → IsSome (S.records session.new) → S.may_restart session.new }
+    ensures faults { FaultsBy result counts.old.faults counts.new.faults (S.fault_count session.old) (S.fault_count session.new) }
+    ensures store_failed { (story : Story) → S.at session.old story → IsSome (S.records session.new) → IsErrOf result LifeFault.StoreFault
+        → one_more (S.fault_count session.old) ≤ S.fault_count session.new }
+    ensures lasts { S.lasts ≡ false → IsErrOf result LifeFault.StoreFault → ⊥ }
+    ensures turned { (story : Story) (kept : List ℕ) → S.at session.old story → answers.is_look rests (read_in asked.now) ≡ false
+        → IsMaybeReliedOn (S.records session.new) (first_item asked.now.items)
+        → IfOk result (λ _. HasTurned rests (flow_of (S.engine_of session.old)) story kept (read_in asked.now) counts.old counts.new into.old.items
         into.new.items (λ next lines. S.at session.new next × S.keeps session.new next lines) (S.records session.new)) }
     ensures lines { counts.new.lines ≡ counts.old.lines }
 {

@@ -5,6 +5,7 @@ use Rattle.std.specs.Cmp.{nat_cmp_total}
 use Rattle.std.specs.FinMap.{same_map, nat_cmp-IsAntisymmetric}
 use Rattle.std.specs.Option.{ForSome}
 use Rattle.std.specs.Prelude.{IsErrOf, IsSome}
+use Rattle.fw_outside.specs.declared.fault.OutFault.{OutFault}
 use Rattle.fw_outside.specs.Outside.{SinkView, StayIfTold}
 use Rattle.fw_lines.specs.declared.refusal.Refusal.{Refusal}
 use Rattle.fw_flow.specs.Dataflow.{Dataflow}
@@ -43,13 +44,13 @@ use Rattle.fw_live.proofs.CommandLaws.{writes-none}
 use Rattle.fw_run.specs.Call.{CountsWrites}
 use Rattle.fw_live.specs.Words.{LiveCommand}
 use Rattle.fw_relive.specs.Opening.{Restart, lines_found, opened_text, restart_in}
-use Rattle.fw_relive.specs.Call.{AnswersFrom, EndsLasting, EndsUnopened, GoesOnBehind, HasTextSo, IsFlowText, AreOfRoot, KeepsAtEnd, LastingAnswers, MayBeginOver, OpensAt, StartsFrom, WritesAt, live_digests, unstarted_status}
+use Rattle.fw_relive.specs.Call.{AnswersFrom, EndsLasting, EndsUnopened, GoesOnBehind, HasTextSo, IsCutBehind, IsFlowText, AreOfRoot, KeepsAtEnd, LastingAnswers, MayBeginOver, OpensAt, StartsFrom, WritesAt, live_digests, unstarted_status}
 
 -- ---- statuses
 
-never-damaged : (status : Status) (id : ℕ) (IsEnd : Type 0) (told : Status) (text all : List ℕ) (before after : SinkView) → status ≡ Damaged id
-    → WritesAt status IsEnd told text all before after → ⊥
-never-damaged status id IsEnd told text all before after is w = subst (λ s. WritesAt s IsEnd told text all before after) is w
+never-damaged : (status : Status) (id : ℕ) (IsEnd : Type 0) (told : Status) (text line : List ℕ) (IsCut : OutFault → SinkView → SinkView → Type 0)
+    (before after : SinkView) → status ≡ Damaged id → WritesAt status IsEnd told text line IsCut before after → ⊥
+never-damaged status id IsEnd told text line IsCut before after is w = subst (λ s. WritesAt s IsEnd told text line IsCut before after) is w
 
 opens-no_root : (rests : Bool) (flow : Dataflow) (found : Option Restart) (first : Story) (IsKept : Story → List ℕ → Type 0)
     (given gives : Option (List LineIn)) (ended : Bool) (status : Status) (before after : SinkView)
@@ -60,7 +61,7 @@ opens-no_root rests flow found first IsKept given gives ended status before afte
     let opened = opened_text flow first found in
     let text = answers_text flow no_counts so.answers in
     never-damaged status id ((ended ≡ true) × (so.unanswered ≡ []) × IsKept so.last (kept_behind flow (lines_found found) so.answers)) (status_by counts)
-    (opened ++ text) (opened ++ (text ++ counts_line counts)) before after is so.wrote
+    (opened ++ text) (counts_line counts) (IsCutBehind flow opened so.answers) before after is so.wrote
 
 -- ---- a session that started
 

@@ -3,6 +3,7 @@ use Rattle.std.specs.Prelude.{◌≡◌, ◌≢◌, ◌⊎◌, ◌↔◌, ◌≤
 use Rattle.std.specs.List.{AllByRecursion}
 use Rattle.std.specs.Option.{ForSome}
 use Rattle.sha2.specs.Sha256.{sha256}
+use Rattle.fw_outside.specs.declared.fault.OutFault.{OutFault}
 use Rattle.fw_outside.specs.declared.fault.OutFault.TheVariants as out
 use Rattle.fw_outside.specs.Outside.{StoreView, SinkView, IsText, StayIfTold}
 use Rattle.fw_lines.specs.declared.refusal.Refusal.{Refusal}
@@ -31,6 +32,7 @@ use Rattle.fw_live.specs.Answers.{Answer, IsUnharmed}
 use Rattle.fw_live.specs.Asked.{LineIn}
 use Rattle.fw_live.specs.Call.{EndsQuiet, EndsUnbegun, HasFlowRefused, StaysQuiet, status_by}
 use Rattle.fw_live.specs.Life.{AreAnswers, answers_text, counts_behind, counts_line, kept_behind, no_counts}
+use Rattle.fw_live.specs.Serving.{IsCutInLast}
 use Rattle.fw_live.specs.Words.{LiveCommand}
 use Rattle.fw_relive.specs.Opening.{Restart, lines_found, opened_text}
 
@@ -91,27 +93,39 @@ abbrev pub KeepsAtEnd : Dataflow → Digests → Option Records → Story → Li
 KeepsAtEnd flow digests records story lines = ForSome records (λ held. (turn : ℕ) × (next : ℕ) × (steps : ℕ)
     × HoldsStory flow digests held story turn next × SaysLast flow digests story steps lines (Some held))
 
+-- all that was opened with was written, and of the answers all but the last, and of that one first bytes; or first bytes of what was opened
+-- with, where nothing was answered; then the output failed so
+abbrev pub IsCutBehind : Dataflow → List ℕ → List Answer → OutFault → SinkView → SinkView → Type 0
+IsCutBehind flow opened answers fault before after =
+    ((between : SinkView) × IsWritten opened before between × IsCutInLast flow no_counts answers fault between after)
+    ⊎ ((answers ≡ []) × IsCutOff opened fault before after)
+
+-- all was written, and of the last line first bytes; then the output failed so
+abbrev pub IsCutInEnd : List ℕ → List ℕ → OutFault → SinkView → SinkView → Type 0
+IsCutInEnd text line fault before after = (between : SinkView) × IsWritten text before between × IsCutOff line fault between after
+
 -- How much was written where a call ends so, of its text, or of all, with the last line behind it. 0: all, and the status is as the last line
 -- counts. 6: the text. 7: it was cut off. 8: all, and the status is so; or the text. 10: at any time.
-abbrev pub WritesAt : Status → Type 0 → Status → List ℕ → List ℕ → SinkView → SinkView → Type 0
-WritesAt Done IsEnd told text all before after = IsEnd × (told ≡ Done) × IsWritten all before after
-WritesAt ReadFault IsEnd told text all before after = IsWritten text before after
-WritesAt WriteFault IsEnd told text all before after =
-    IsCutOff text out.Failed before after ⊎ (IsEnd × IsCutOff all out.Failed before after)
-WritesAt StoreFault IsEnd told text all before after =
-    IsWritten text before after ⊎ (IsEnd × (told ≡ StoreFault) × IsWritten all before after)
-WritesAt NoMemory IsEnd told text all before after =
-    IsWritten text before after ⊎ (IsCutOff text out.NoMemory before after ⊎ (IsEnd × IsCutOff all out.NoMemory before after))
-WritesAt status IsEnd told text all before after = ⊥
+abbrev pub WritesAt : Status → Type 0 → Status → List ℕ → List ℕ → (OutFault → SinkView → SinkView → Type 0) → SinkView → SinkView → Type 0
+WritesAt Done IsEnd told text line IsCut before after = IsEnd × (told ≡ Done) × IsWritten (text ++ line) before after
+WritesAt ReadFault IsEnd told text line IsCut before after = IsWritten text before after
+WritesAt WriteFault IsEnd told text line IsCut before after =
+    IsCut out.Failed before after ⊎ (IsEnd × IsCutInEnd text line out.Failed before after)
+WritesAt StoreFault IsEnd told text line IsCut before after =
+    IsWritten text before after ⊎ (IsEnd × (told ≡ StoreFault) × IsWritten (text ++ line) before after)
+WritesAt NoMemory IsEnd told text line IsCut before after =
+    IsWritten text before after ⊎ (IsCut out.NoMemory before after ⊎ (IsEnd × IsCutInEnd text line out.NoMemory before after))
+WritesAt status IsEnd told text line IsCut before after = ⊥
 
--- Behind what was opened with, these lines came in, and perhaps one more; from this story on they were answered, each once and in order, no
--- answer is `damaged ID`, and so much of the text was written. Where the last line was begun, all lines that came were answered, and of the last
+-- Behind what was opened with, these lines came in, and perhaps one more, but none at 6; from this story on they were answered, each once and in
+-- order, no answer is `damaged ID`, and so much of the text was written. Where the last line was begun, all lines that came were answered, and of the last
 -- story and the lines that are kept then this is true.
 pub record AnswersBehind (rests : Bool) (flow : Dataflow) (opened kept : List ℕ) (first : Story) (IsKept : Story → List ℕ → Type 0)
     (given gives : Option (List LineIn)) (ended : Bool) (status : Status) (before after : SinkView) : Type 0 where
   pub lines : List LineIn
   pub unanswered : List LineIn
   pub one : length unanswered ≤ 1
+  pub none_left : status ≡ ReadFault → unanswered ≡ []
   pub gave : gives ≡ option_map (λ earlier. earlier ++ (lines ++ unanswered)) given
   pub answers : List Answer
   pub last : Story
@@ -119,8 +133,8 @@ pub record AnswersBehind (rests : Bool) (flow : Dataflow) (opened kept : List �
   pub of_story : IsStory flow last
   pub unharmed : AllByRecursion IsUnharmed answers
   pub wrote : WritesAt status ((ended ≡ true) × (unanswered ≡ []) × IsKept last (kept_behind flow kept answers))
-      (status_by (counts_behind answers no_counts)) (opened ++ answers_text flow no_counts answers)
-      (opened ++ (answers_text flow no_counts answers ++ counts_line (counts_behind answers no_counts))) before after
+      (status_by (counts_behind answers no_counts)) (opened ++ answers_text flow no_counts answers) (counts_line (counts_behind answers no_counts))
+      (IsCutBehind flow opened answers) before after
 
 -- one that ends so may have written nothing: the store failed, or memory was refused
 abbrev pub EndsUnopened : Status → Type 0

@@ -62,7 +62,7 @@ returns-clause-answers g c = λ flow is none at.
     let fault = c.in-Err.fault in
     rw (c.stopped.ensures) (flow-stopped K old.rests flow before old.session.store new.session.store given gives (g.L.LineSource.ended input) fault
     first last none (at, at) refl
-    (subst (λ d. ServesPart old.rests d before (K new.session.store).records (K new.session.store).faults given gives (IsPutBefore fault first last)) is c.in-Err.ensures.part)
+    (subst (λ d. ServesPart old.rests d before (K new.session.store).records (K new.session.store).faults fault given gives (IsPutBefore d before.counts fault first last)) is c.in-Err.ensures.part)
     (stopped-before fault (λ e. c.serve.ensures.lasts refl (c.in-Err.is ∙ ap Err e))))
 
 pub returns-in-Ok-clause-reads : goal.returns-in-Ok-clause-reads

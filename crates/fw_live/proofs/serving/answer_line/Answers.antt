@@ -1,9 +1,11 @@
-use Rattle.std.proofs.Common.{◌≡◌, Some, None, refl, subst}
+use Rattle.std.proofs.Common.{◌≡◌, Some, None, Err, refl, sym, ap, subst, ◌∙◌}
+use Rattle.std.proofs.lemmas.Result.{err_from_is_err_and}
 use Rattle.fw_engine.specs.Engine.{flow_of}
 use Rattle.fw_live.specs.Answered.{HasAnswered}
 use Rattle.fw_live.specs.Asked.{asked_for}
+use Rattle.fw_live.specs.declared.fault.ServeFault.TheVariants.{Store}
 use Rattle.fw_live.specs.Given.{with_line_given}
-use Rattle.fw_live.proofs.ServingLaws.{serves-one}
+use Rattle.fw_live.proofs.ServingLaws.{same-fault, serves-one}
 use Rattle.fw_live.proofs.serving.answer_line.Goals as goal
 
 pub returns-clause-answered : goal.returns-clause-answered
@@ -18,3 +20,8 @@ returns-clause-answered g c = λ given.
     (λ story kept there relied. subst (λ bytes. HasAnswered old.rests flow story kept (asked_for flow (Some c.args.line.now)) old.counts new.counts bytes c.answer.new.into.items
     (λ s lines. g.S.Living.at new.session s × g.S.Living.keeps new.session s lines) (g.S.Living.records new.session)) c.new-answer.ensures.items
     (c.in_ok-answer.ensures.answered story kept there.0 there.1 relied))
+
+pub returns-in_err-answer-clause-store_failed : goal.returns-in_err-answer-clause-store_failed
+returns-in_err-answer-clause-store_failed g c = λ story at told e.
+    let p = err_from_is_err_and c.from_residual.result c.from_residual.ensures.1 in
+    c.in_err-answer.ensures.store_failed story at told (ap Err (p.2.1 (same-fault p.0 Store (sym p.1 ∙ e))))

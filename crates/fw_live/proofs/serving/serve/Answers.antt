@@ -4,11 +4,11 @@ use Rattle.std.specs.Prelude.{IfSome}
 use Rattle.fw_session.specs.Story.{Story, IsStory}
 use Rattle.fw_engine.specs.Engine.{flow_of}
 use Rattle.fw_command.specs.Writing.{IsWritten}
-use Rattle.fw_live.specs.declared.fault.ServeFault.TheVariants.{Read}
-use Rattle.fw_live.specs.Serving.{GivesMany, IsCutBy, Serves}
+use Rattle.fw_live.specs.declared.fault.ServeFault.TheVariants.{Read, Store}
+use Rattle.fw_live.specs.Serving.{GivesMany, IsCutBy, ServesOne}
 use Rattle.fw_live.proofs.CommandLaws.{relied-told}
-use Rattle.fw_live.proofs.FaultsLaws.{same≤}
-use Rattle.fw_live.proofs.ServingLaws.{calm-more, counts-calm, counts-cut, counts-stopped, gives-none, lines-failed, lines-kept, many-more, many-none, part-before, part-within, serves-more, serves-none}
+use Rattle.fw_live.proofs.FaultsLaws.{failed-after, same≤, told-grows}
+use Rattle.fw_live.proofs.ServingLaws.{calm-more, counts-calm, counts-cut, counts-stopped, gives-none, lines-failed, lines-kept, many-more, many-none, part-before, part-within, serves-more, same-fault, serves-none, store-not-cut}
 use Rattle.fw_live.proofs.serving.serve.Goals as goal
 
 pub loop-init : goal.loop-init
@@ -56,7 +56,7 @@ loop-preserved g c =
           (record { counts = new.counts; records = g.S.Living.records new.session; faults = g.S.Living.fault_count new.session; At = λ story kept. g.S.Living.at new.session story × g.S.Living.keeps new.session story kept })
           (g.L.LineSource.given c.args.input.now) (g.L.LineSource.given c.loop.input) (g.L.LineSource.given c.answer_next.new.input)
           c.in-Some.answer.items (g.O.Sink.view c.args.out.now) (g.O.Sink.view c.loop.out) (g.O.Sink.view c.write.new.out)
-          inv.rests inv.flow inv.served (subst (λ answer. IfSome answer (λ text. Serves now.rests (flow_of (g.S.Living.engine_of now.session))
+          inv.rests inv.flow inv.served (subst (λ answer. IfSome answer (λ text. ServesOne now.rests (flow_of (g.S.Living.engine_of now.session))
           (record { counts = now.counts; records = g.S.Living.records now.session; faults = g.S.Living.fault_count now.session; At = λ story kept. g.S.Living.at now.session story × g.S.Living.keeps now.session story kept })
           (record { counts = new.counts; records = g.S.Living.records new.session; faults = g.S.Living.fault_count new.session; At = λ story kept. g.S.Living.at new.session story × g.S.Living.keeps new.session story kept })
           (g.L.LineSource.given c.loop.input) (g.L.LineSource.given c.answer_next.new.input) (λ bytes. text.items ≡ bytes))) c.in-Some.is c.in_ok-answer.ensures.answered)
@@ -90,7 +90,7 @@ returns-in_err-write-clause-part g c =
     (record { counts = now.counts; records = g.S.Living.records now.session; faults = g.S.Living.fault_count now.session; At = λ story kept. g.S.Living.at now.session story × g.S.Living.keeps now.session story kept })
     (record { counts = new.counts; records = g.S.Living.records new.session; faults = g.S.Living.fault_count new.session; At = λ story kept. g.S.Living.at new.session story × g.S.Living.keeps new.session story kept })
     (g.L.LineSource.given c.args.input.now) (g.L.LineSource.given c.loop.input) (g.L.LineSource.given c.answer_next.new.input) c.in-Some.answer.items fault
-    (g.O.Sink.view c.args.out.now) (g.O.Sink.view c.loop.out) (g.O.Sink.view c.write.new.out) inv.rests inv.flow inv.served (subst (λ answer. IfSome answer (λ text. Serves now.rests (flow_of (g.S.Living.engine_of now.session))
+    (g.O.Sink.view c.args.out.now) (g.O.Sink.view c.loop.out) (g.O.Sink.view c.write.new.out) inv.rests inv.flow inv.served (subst (λ answer. IfSome answer (λ text. ServesOne now.rests (flow_of (g.S.Living.engine_of now.session))
     (record { counts = now.counts; records = g.S.Living.records now.session; faults = g.S.Living.fault_count now.session; At = λ story kept. g.S.Living.at now.session story × g.S.Living.keeps now.session story kept })
     (record { counts = new.counts; records = g.S.Living.records new.session; faults = g.S.Living.fault_count new.session; At = λ story kept. g.S.Living.at new.session story × g.S.Living.keeps new.session story kept })
     (g.L.LineSource.given c.loop.input) (g.L.LineSource.given c.answer_next.new.input) (λ bytes. text.items ≡ bytes))) c.in-Some.is c.in_ok-answer.ensures.answered)
@@ -107,7 +107,7 @@ returns-clause-part g c =
     (record { counts = now.counts; records = g.S.Living.records now.session; faults = g.S.Living.fault_count now.session; At = λ story kept. g.S.Living.at now.session story × g.S.Living.keeps now.session story kept })
     (g.S.Living.records now.session) (g.S.Living.fault_count now.session) (g.L.LineSource.given c.args.input.now) (g.L.LineSource.given c.loop.input) (g.L.LineSource.given c.loop.input) Read
     (g.O.Sink.view c.args.out.now) (g.O.Sink.view c.loop.out) c.loop.invariant.served
-    (gives-none (g.L.LineSource.given c.loop.input) (g.L.LineSource.given c.loop.input) refl) (λ e. absurd cc) (λ told. told)
+    (gives-none Read (g.L.LineSource.given c.loop.input) (g.L.LineSource.given c.loop.input) refl) (λ e. absurd cc) (λ told. told)
     (same≤ (g.S.Living.fault_count now.session) (g.S.Living.fault_count now.session) refl)
     (λ story kept there. subst (λ d. IsStory d story) c.loop.invariant.flow (c.loop.invariant.of_story story there.0))
 
@@ -183,3 +183,23 @@ returns-in_err-write-clause-left g c = λ story kept at keeps may told.
 
 pub returns-clause-left : goal.returns-clause-left
 returns-clause-left g c = c.loop.invariant.left
+
+pub returns-in_err-answer-clause-store_failed : goal.returns-in_err-answer-clause-store_failed
+returns-in_err-answer-clause-store_failed g c = λ story kept at keeps told e.
+    let p = err_from_is_err_and c.from_residual.result c.from_residual.ensures.1 in
+    let inv = c.loop.invariant in
+    let old = c.args.live.now in
+    let now = c.loop.live in
+    let count = g.S.Living.fault_count in
+    let t = c.answer_next.ensures.told_before told in
+    let s = inv.served.serves story kept (at, keeps) (relied-told (g.S.Living.records now.session)
+    (flow_of (g.S.Living.engine_of old.session)) inv.served.lines t) in
+    failed-after (count old.session) (count now.session) (count c.answer_next.new.live.session)
+    (told-grows old.counts.faults now.counts.faults (count old.session) (count now.session) inv.served.faults)
+    (c.in_err-answer.ensures.store_failed s.last s.at.0 told (ap Err (sym p.2 ∙ same-fault p.0 Store (sym p.1 ∙ e))))
+
+pub returns-in_err-write-clause-store_failed : goal.returns-in_err-write-clause-store_failed
+returns-in_err-write-clause-store_failed g c = λ story kept at keeps told e.
+    let p = err_from_is_err_and c.from_residual-in_err-write.result c.from_residual-in_err-write.ensures.1 in
+    absurd (store-not-cut c.in_err-write.field-0.0 c.deref.result.now (g.O.Sink.view c.loop.out) (g.O.Sink.view c.write.new.out)
+    (sym (ap Err p.2) ∙ sym p.1 ∙ e) c.in_err-write.ensures.cut)

@@ -24,7 +24,7 @@ returns-in-Ok-clause-answered g c = λ story kept at keeps relied.
     let flow = flow_of (g.S.Living.engine_of here) in
     let heard = ap heard_in (sym c.in-Ok.is) ∙ c.allowed.ensures story at in
     if-if c.turn.result _ _
-    (c.turn.ensures.turned story at (allowed-relied story.now.opened (came_in_story flow story) (heard_in c.args.heard) (read_in c.in-Ok.asked)
+    (c.turn.ensures.turned story kept at keeps (allowed-relied story.now.opened (came_in_story flow story) (heard_in c.args.heard) (read_in c.in-Ok.asked)
     (g.S.Living.records new) heard relied))
     (λ has. answer-turned live.rests flow story kept (heard_in c.args.heard) (read_in c.in-Ok.asked) live.counts c.count_line.new.self c.turn.new.counts
     c.args.into.now.items c.turn.new.into.items (λ s lines. g.S.Living.at new s × g.S.Living.keeps new s lines) (g.S.Living.records new) heard c.count_line.ensures has)

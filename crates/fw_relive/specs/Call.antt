@@ -105,7 +105,7 @@ abbrev pub IsCutInEnd : List ℕ → List ℕ → OutFault → SinkView → Sink
 IsCutInEnd text line fault before after = (between : SinkView) × IsWritten text before between × IsCutOff line fault between after
 
 -- How much was written where a call ends so, of its text, or of all, with the last line behind it. 0: all, and the status is as the last line
--- counts. 6: the text. 7: it was cut off. 8: all, and the status is so; or the text. 10: at any time.
+-- counts. 6: the text. 7: it was cut off, or the last line. 8: all, and the status is so; or the text. 10: at any time.
 abbrev pub WritesAt : Status → Type 0 → Status → List ℕ → List ℕ → (OutFault → SinkView → SinkView → Type 0) → SinkView → SinkView → Type 0
 WritesAt Done IsEnd told text line IsCut before after = IsEnd × (told ≡ Done) × IsWritten (text ++ line) before after
 WritesAt ReadFault IsEnd told text line IsCut before after = IsWritten text before after
@@ -117,9 +117,9 @@ WritesAt NoMemory IsEnd told text line IsCut before after =
     IsWritten text before after ⊎ (IsCut out.NoMemory before after ⊎ (IsEnd × IsCutInEnd text line out.NoMemory before after))
 WritesAt status IsEnd told text line IsCut before after = ⊥
 
--- Behind what was opened with, these lines came in, and perhaps one more, but none at 6; from this story on they were answered, each once and in
--- order, no answer is `damaged ID`, and so much of the text was written. Where the last line was begun, all lines that came were answered, and of the last
--- story and the lines that are kept then this is true.
+-- Behind what was opened with, these lines came in, and perhaps one more, but none at 6; from this story on they were answered, each once and
+-- in order, no answer is `damaged ID`, and so much of the text was written. Where the last line was begun, all lines that came were answered,
+-- and of the last story and the lines that are kept then this is true.
 pub record AnswersBehind (rests : Bool) (flow : Dataflow) (opened kept : List ℕ) (first : Story) (IsKept : Story → List ℕ → Type 0)
     (given gives : Option (List LineIn)) (ended : Bool) (status : Status) (before after : SinkView) : Type 0 where
   pub lines : List LineIn
@@ -194,6 +194,6 @@ pub record LastingAnswers (texts : Option (List ℕ → Option (List ℕ))) (com
   pub refused : (refusal : Refusal) → status ≡ Refused refusal → HasFlowRefused texts command refusal
   -- 2, 3: no line came in, nothing was written, and the store has what it had.
   pub unbegun : EndsUnbegun status → StaysQuiet given gives before after × (tells ≡ told)
-  -- Else the same, as the folder failed or memory was refused before the flow was read; or a session over it ended so.
+  -- Else the same, as the folder failed or memory was refused, and no session began; or a session over the flow that was read ended so.
   pub begun : (EndsUnbegun status → ⊥) → (EndsQuiet status × StaysQuiet given gives before after × (tells ≡ told))
       ⊎ HasTextSo texts command (λ rests text flow. EndsLasting rests flow (live_digests text) told tells given gives ended status before after)

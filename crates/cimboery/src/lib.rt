@@ -18,6 +18,9 @@
 //! - A run that is fed: a `Session` owns an engine and its store, and takes batches while it runs; `Session::feed` and `close` answer a
 //!   `FeedFault` where a source is not open or has no room. Its steps are a run over the batches that came in the end
 //!   (`laws::stories_are_runs`), and what it acknowledges is what the dataflow means of them.
+//! - A session over lines: `Live` answers each line as `falkirk live` does (`Live::answer`), over a `Session`, or over a `LastingSession`,
+//!   which keeps in its store what it needs to go on after a kill; both are `Living`. `falkirk_live` and `falkirk_lasting` are the commands,
+//!   over a `LineSource` and a `Sink`.
 //! - Times: `Stamp`; `Front`, a frontier; `Cut` and `Choice`, to what a recovery restores the nodes.
 //! - What is true of every run, whoever takes its steps: the law `every_run_is_right`.
 //! - The command over texts: `falkirk`, with its `Folder`, `Store` and `Sink` in memory, over files (`ReadFolder`, `DiskStore`,
@@ -54,3 +57,14 @@ pub use fw_schedule::{
 pub use fw_session::{Arrivals, FeedFault, Session};
 pub use fw_telling::{NamedFiles, ReadFolder, TellingSink};
 pub use fw_time::{Bounds, Stamp};
+
+// Sessions over lines, and such as last.
+pub use fw_hold::HoldFault;
+pub use fw_lasting::{LastingSession, NotStarted, Resumed};
+pub use fw_live::{
+    LINE_LIMIT, LineRule, LineSource, Live, MemLines, NextLine, ServeFault, StreamLines,
+    falkirk_live,
+};
+pub use fw_living::{LifeFault, Living};
+pub use fw_relive::{Lasted, falkirk_lasting};
+pub use fw_root::{Digests, Printed};

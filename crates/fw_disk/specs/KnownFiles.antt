@@ -5,7 +5,7 @@ use Rattle.std.specs.declared.alloc.Global.{Global}
 use Rattle.std.specs.Io.KnownBytes.{Appends}
 use Rattle.sha2.specs.Sha256.{sha256}
 use Rattle.fw_disk.specs.Contents.{contents_of}
-use Rattle.fw_disk.specs.RunLines.{only_of, digests_of, digests_under, digests_told, if_any, whole_lines, StandByLines, HasLinesOf}
+use Rattle.fw_disk.specs.RunLines.{only_of, digests_of, digests_under, digests_told, if_any, whole_lines}
 
 -- A file has these bytes behind those that it had as it was opened, where it tells them.
 abbrev pub HasGrown : {F : Type 0} → (F → Option (List ℕ)) → F → List ℕ → Type 0
@@ -31,10 +31,3 @@ IsRunText remaining text = (text ≡ []) ⊎ AreRead remaining text
 -- A table has under each id the digests that the lines of that file tell.
 abbrev pub TellRead : {F : Type 0} → (F → Option (List ℕ)) → BTreeMap ℕ (Vec (List ℕ) Global) → Type 0
 TellRead remaining told = (text : List ℕ) × IsRunText remaining text × ((id : ℕ) → digests_of told id ≡ if_any (digests_told (whole_lines text) id))
-
--- A table stands by the lines of that file: under each id are digests that may stand there by them, and each id that has a line there has one.
-pub record StandsByRun {F : Type 0} (remaining : F → Option (List ℕ)) (claimed : BTreeMap ℕ (Vec (List ℕ) Global)) : Type 0 where
-  pub lines : BTreeMap ℕ (Vec (List ℕ) Global)
-  pub read : TellRead remaining lines
-  pub stand : StandByLines lines claimed
-  pub have : HasLinesOf lines claimed

@@ -128,3 +128,10 @@ StandByLines lines claimed = (id : ℕ) → AllByRecursion (MayStand lines id) (
 -- each id that has one of these lines has one here
 abbrev pub HasLinesOf : BTreeMap ℕ (Vec (List ℕ) Global) → BTreeMap ℕ (Vec (List ℕ) Global) → Type 0
 HasLinesOf lines claimed = (id : ℕ) → IsSome (digests_of lines id) → IsSome (digests_of claimed id)
+
+-- A table stands by the lines of a text: under each id are digests that may stand there by them, and each id that has a line there has one.
+pub record StandsByText (text : List ℕ) (claimed : BTreeMap ℕ (Vec (List ℕ) Global)) : Type 0 where
+  pub lines : BTreeMap ℕ (Vec (List ℕ) Global)
+  pub tell : (id : ℕ) → digests_of lines id ≡ if_any (digests_told (whole_lines text) id)
+  pub stand : StandByLines lines claimed
+  pub have : HasLinesOf lines claimed

@@ -3,10 +3,10 @@ ghost use Rattle.std.specs.Prelude.{◌≡◌, ℕ, ◌<◌, true, [], ◌∷◌
 ghost use Rattle.sha2.specs.Sha256.{sha256};
 ghost use Rattle.fw_disk.specs.Causes.{tells_gone};
 ghost use Rattle.fw_disk.specs.FolderCalls.{calls_of, folder_flushed, AreOfRun};
-ghost use Rattle.fw_disk.specs.KnownFiles.{IsRunText, IsRecordRead, IsDigestFound, StandsByRun};
+ghost use Rattle.fw_disk.specs.KnownFiles.{IsRunText, IsRecordRead, IsDigestFound};
 ghost use Rattle.fw_disk.specs.Names.{HoldsNoRecord};
 ghost use Rattle.fw_disk.specs.PowerLoss.{Disk, AtEachMoment};
-ghost use Rattle.fw_disk.specs.RunLines.{digest_line, digests_of, digests_under, are_any, MayStand, StandByLines, HasLinesOf};
+ghost use Rattle.fw_disk.specs.RunLines.{digest_line, digests_of, digests_under, are_any, MayStand, StandByLines, HasLinesOf, StandsByText};
 ghost use Rattle.fw_disk.specs.Survival.{IsOld, IsOldOrNew, IsOldOrGone, IsOnDisk, IsGone, EndsIn, IsLineWritten, IsRunFileKnown, IsWithLine};
 ghost use Rattle.fw_disk.specs.Told.{HasDigestsNoted, IsClaimFor};
 ghost use Rattle.fw_disk.specs.declared.claim.Wanted.TheVariants.{Empty};
@@ -84,29 +84,30 @@ pub(crate) fn claim_left<R: Files<File = File>>(
 {
     let locked = folder.lock()?;
     folder.flush()?;
-    let (lines, is_cut) = lines_left(folder, heard)?;
+    let text = run_text(folder)?;
+    let lines = lines_left(folder, &text, heard)?;
     Ok(Claim {
         locked,
         lines,
-        is_cut,
+        is_cut: !matches!(text.last(), None | Some(b'\n')),
     })
 }
 
-// The lines of the records that stand in a folder, by those of its file `run`, and whether the last of these may be cut short.
+// The lines of the records that stand in a folder whose file `run` has this text.
 fn lines_left<R: Files>(
     folder: &mut Folder<'_, R>,
+    text: &[u8],
     heard: &mut Heard,
-) -> Result<(RunLines, bool), DiskRefusal>
+) -> Result<RunLines, DiskRefusal>
     requires { heard.old.notes ≡ [] }
-    ensures noted { IfOk result (λ left. HasDigestsNoted heard.new.notes left.0.told) }
-    ensures by_run { IfOk result (λ left. StandsByRun R.File.Read.remaining left.0.told) }
+    ensures noted { IfOk result (λ left. HasDigestsNoted heard.new.notes left.told) }
+    ensures by_text { IfOk result (λ left. StandsByText text.now left.told) }
     ensures any_moment { (start : Disk) → AtEachMoment (IsOld start (calls_of folder.old.calls)) (calls_of folder.old.calls) (calls_of folder.new.calls) }
 {
-    let text = run_text(folder)?;
-    let told = lines_in(folder.alloc(), &text)?;
+    let told = lines_in(folder.alloc(), text)?;
     let lines = found(folder, &told, heard)?;
-    see_run(folder, &text)?;
-    Ok((lines, !matches!(text.last(), None | Some(b'\n'))))
+    see_run(folder, text)?;
+    Ok(lines)
 }
 
 // The records that stand in a folder whose file `run` has these lines, each with its digest, which is noted.

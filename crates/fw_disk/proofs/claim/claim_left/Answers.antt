@@ -8,6 +8,9 @@ use Rattle.fw_disk.proofs.claim.claim_left.Goals as goal
 pub returns-in_err-flush-clause-any_moment : goal.returns-in_err-flush-clause-any_moment
 returns-in_err-flush-clause-any_moment g c start = flush_keeps start (calls_of c.args.folder.now.calls) (calls_of c.flush.new.self.calls) (is_ok c.flush.result) c.flush.ensures
 
+pub returns-in_err-text-clause-any_moment : goal.returns-in_err-text-clause-any_moment
+returns-in_err-text-clause-any_moment g c start = flush_keeps start (calls_of c.args.folder.now.calls) (calls_of c.flush.new.self.calls) (is_ok c.flush.result) c.flush.ensures
+
 pub returns-in_err-lines-clause-any_moment : goal.returns-in_err-lines-clause-any_moment
 returns-in_err-lines-clause-any_moment g c start =
     let old = calls_of c.args.folder.now.calls in

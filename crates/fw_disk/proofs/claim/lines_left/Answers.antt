@@ -1,6 +1,4 @@
-use Rattle.std.proofs.Common.{sym, subst}
 use Rattle.fw_disk.specs.FolderCalls.{calls_of}
-use Rattle.fw_disk.specs.KnownFiles.{IsRunText}
 use Rattle.fw_disk.proofs.PutMoments.{then_keeps, run_keeps}
 use Rattle.fw_disk.proofs.claim.lines_left.Goals as goal
 
@@ -16,10 +14,10 @@ returns-clause-any_moment g c start =
     let seen = calls_of c.see_run.new.folder.calls in
     then_keeps start (calls_of c.args.folder.now.calls) found seen (c.found.ensures.any_moment start) (run_keeps start found seen c.see_run.ensures)
 
-pub returns-clause-by_run : goal.returns-clause-by_run
-returns-clause-by_run g c = record {
+pub returns-clause-by_text : goal.returns-clause-by_text
+returns-clause-by_text g c = record {
   lines = c.in_ok-told.told.told;
-  read = (c.deref.result.now, subst (IsRunText g.R.File.Read.remaining) (sym c.deref.ensures.value) c.in_ok-text.ensures, c.in_ok-told.ensures);
+  tell = c.in_ok-told.ensures;
   stand = c.in_ok-lines.ensures.stand;
   have = c.in_ok-lines.ensures.have;
 }

@@ -10,7 +10,7 @@ use fw_outside::{FaultlessStore, Sink};
 use fw_pace::printed;
 use fw_run::{Status, falkirk};
 use fw_telling::{ReadFolder, TellingSink, read_texts};
-use std::io::{ErrorKind, IsTerminal};
+use std::io::{BufReader, ErrorKind, IsTerminal};
 use std::process::ExitCode;
 use std::{env, io};
 
@@ -88,8 +88,11 @@ fn answer_lines<O: Sink, N: Sink>(
     let Ok(mut folder) = folder else {
         return without_memory(notes);
     };
+    let Ok(input) = BufReader::new(alloc, rt.stdin()) else {
+        return without_memory(notes);
+    };
     let store = FaultlessStore::new(alloc);
-    let mut lines = StreamLines::new(rt.stdin().lock());
+    let mut lines = StreamLines::new(input);
     let status = falkirk_live(alloc, words, &mut folder, store, &mut lines, out, notes);
     Ended {
         number: status.number(),

@@ -24,7 +24,7 @@ use fw_run::{Status, falkirk};
 use fw_show::{ShowFault, show};
 use fw_telling::{ReadFolder, TellingSink, read_texts};
 use std::alloc::{AllocError, Global};
-use std::io::{ErrorKind, IsTerminal};
+use std::io::{BufReader, ErrorKind, IsTerminal};
 use std::process::ExitCode;
 use std::rt::Files;
 use std::{env, io};
@@ -184,7 +184,10 @@ fn run_live<'a, N: Sink>(
     let Ok(mut folder) = folder else {
         return out_of_memory(notes);
     };
-    let mut lines = StreamLines::new(rt.stdin().lock());
+    let Ok(input) = BufReader::new(alloc, rt.stdin()) else {
+        return out_of_memory(notes);
+    };
+    let mut lines = StreamLines::new(input);
     let mut out = AckSink::new(alloc, TellingSink::new(rt.stdout()));
     empty_stores_may_begin();
     let lasted = falkirk_lasting(

@@ -1,4 +1,5 @@
-# Read by bin/falkirk, bin/install and bin/refuse-memory, which set $top, $name, $quiet and say(): makes the programs.
+# Read by bin/falkirk, bin/install, bin/refuse-memory and bin/bindings, which set $top, $name, $quiet and say(): makes the programs, and
+# the library for other languages.
 # choose sets $program to the path of the program: the proved build where it is there and no source is newer, else a build without
 # proofs in out/, which is made once for both programs. FALKIRK_BUILD=proved proves and builds here and now.
 
@@ -6,8 +7,11 @@ proved=$top/crates/$name/out/$name
 unproved=$top/out/$name-unproved
 
 # whether the program is there and no source is newer
-is_current() {
-    [ -x "$1" ] && [ -z "$(find "$top/crates" "$top/crates.txt" -name out -prune -o -type f -newer "$1" -print | head -n 1)" ]
+is_current() { [ -x "$1" ] && is_newest "$1"; }
+
+# the same of any file
+is_newest() {
+    [ -s "$1" ] && [ -z "$(find "$top/crates" "$top/crates.txt" -name out -prune -o -type f -newer "$1" -print | head -n 1)" ]
 }
 
 # Which program would run.
@@ -177,4 +181,94 @@ build_unproved() {
     compile both 2 &&
         touch -r "$room/begun" "$room/program" && cp -p "$room/program" "$top/out/program.$$" &&
         ln -f "$top/out/program.$$" "$top/out/falkirk-unproved" && mv -f "$top/out/program.$$" "$top/out/falkirk_disk-unproved"
+}
+
+# Sets $library to the path of the library for other languages, as choose does for a program. FALKIRK_BUILD=proved proves and builds.
+choose_library() {
+    library=$top/crates/falkirk_c/out/libfalkirk_c.a
+    is_newest "$library" && return
+    prepare
+    if [ "${FALKIRK_BUILD-}" = proved ]; then (cd "$top/crates/falkirk_c" && rt lib) >"$room/log" 2>&1 </dev/null
+    else library=$top/out/libfalkirk_c-unproved.a; is_newest "$library" || build_library; fi ||
+        { tail -n 20 "$room/log" >&2; say "the library was not built"; exit 1; }
+    clear_room
+}
+
+# `rt try` knows programs alone. So the library is made of a program that calls each export: its code is taken as text before it is
+# optimized, where a program's functions are its own, and the exports are made public, and its main is not.
+build_library() {
+    say "no proved library of these sources is here: building it without proofs, once (rt ci proves)"
+    write_calls && copy_kit && take_exports || return
+    echo "1 of 1, compiling" >"$room/part"
+    (cd "$room/repo/crates/calls" && exec "$copy/bin/rt" try calls) >"$room/log" 2>&1 </dev/null &
+    pid=$!
+    follow
+    [ -s "$room/library.o" ] && "$kit/toolchain/bin/llvm-ar" rc "$room/library.a" "$room/library.o" && touch -r "$room/begun" "$room/library.a" &&
+        mv -f "$room/library.a" "$library"
+}
+
+# A clang that makes the library of the program's code, which is the module with -fsanitize=address, and then gives up.
+take_exports() {
+    cat >"$copy/toolchain/bin/clang" <<END
+#!/bin/sh
+case " \$* " in *" -fsanitize=address "*) ;; *) exec "$kit/toolchain/bin/clang" "\$@" ;; esac
+for word do
+    shift
+    case \$word in
+    -fsanitize=address) ;;
+    -O0) set -- "\$@" -O1 ;;
+    -fPIE) set -- "\$@" -fPIC ;;
+    module.bc) set -- "\$@" module.ll ;;
+    module.o) set -- "\$@" "$room/library.o" ;;
+    *) set -- "\$@" "\$word" ;;
+    esac
+done
+"$kit/toolchain/bin/clang" -x ir module.bc -S -emit-llvm -O0 -Xclang -disable-llvm-passes -o - |
+    sed -e 's/@"calls::exports::\(falkirk_[a-z_]*\)"/@\1/g' -e '/@falkirk_/s/^define internal /define /' \
+        -e 's/^define i32 @main(/define internal i32 @main(/' >module.ll && "$kit/toolchain/bin/clang" "\$@"
+exit 1
+END
+}
+
+# The program that calls each export.
+write_calls() {
+    calls=$room/repo/crates/calls/src
+    mkdir -p "$calls" && (cd "$top" && cp -r --parents crates/*/src "$room/repo/") || return
+    { cat "$top/crates.txt" && echo "calls:$(sed -n 's/^falkirk_c staticlib://p' "$top/crates.txt")"; } >"$room/repo/crates.txt"
+    sed -e '/^#!\[tactic(auto)\]$/d' -e '/^mod handle;$/d' -e 's/^pub use handle::/use crate::handle::/' "$top/crates/falkirk_c/src/lib.rt" \
+        >"$calls/exports.rt" && cp "$top/crates/falkirk_c/src/handle.rt" "$calls/" || return
+    cat >"$calls/main.rt" <<'END'
+//! Calls each export, so that none is left out.
+#![tactic(auto)]
+
+mod exports;
+mod handle;
+
+use crate::exports::{Bytes, Write, falkirk_answer, falkirk_answer_at, falkirk_close, falkirk_gather, falkirk_line, falkirk_open};
+use crate::exports::{falkirk_open_from, falkirk_put, falkirk_remove, falkirk_write_bytes, falkirk_writes};
+use crate::handle::Handle;
+use std::process::ExitCode;
+use std::ptr::null;
+
+fn main(rt: HostRuntime) -> ExitCode {
+    let alloc = rt.alloc();
+    let mut session = Handle::empty();
+    let mut room = [0u8; 10];
+    let mut at = Bytes { at: null(), len: 0 };
+    let _ = falkirk_open(alloc, &mut session, b"", true);
+    let _ = falkirk_line(alloc, &mut session, b"");
+    let _ = falkirk_answer(alloc, &mut session, &mut room);
+    let _ = falkirk_answer_at(alloc, &mut session, &mut at);
+    let mut write = Write { id: 0, put: false, at: null(), len: 0 };
+    let _ = falkirk_gather(alloc, &mut session);
+    let _ = falkirk_put(alloc, &mut session, 0, b"");
+    let _ = falkirk_remove(alloc, &mut session, 0);
+    let _ = falkirk_open_from(alloc, &mut session, b"", true);
+    let _ = falkirk_writes(alloc, &mut session, 0, &mut write);
+    let _ = falkirk_write_bytes(alloc, &mut session, 0, &mut room);
+    falkirk_close(alloc, &mut session);
+    session.close(alloc);
+    ExitCode::from(2)
+}
+END
 }

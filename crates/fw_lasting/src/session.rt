@@ -216,6 +216,13 @@ impl<K: Store + Drop> LastingSession<K> {
         }
     }
 
+    /// Its store, to be looked at.
+    pub fn store(&self) -> &K
+        ensures { result.now ≡ self.now.store }
+    {
+        &self.store
+    }
+
     /// Its store, which it gives back.
     pub fn into_store(self) -> K
         ensures { result ≡ self.store }

@@ -1,0 +1,13 @@
+use Rattle.std.proofs.Common.{refl, ap, ◌∙◌, sym, None, Some}
+use Rattle.falkirk_c.specs.Calls.{code_of, Tells}
+use Rattle.falkirk_c.proofs.Laws.{known}
+use Rattle.falkirk_c.proofs.falkirk_line.Goals as goal
+
+pub returns-in-None : goal.returns-in-None
+returns-in-None c = known (λ old new. Tells c.args.line.now old 3 new) _ _ None None c.in-None.ensures.taken c.take.ensures.emptied (refl, refl)
+
+pub returns-in-Some : goal.returns-in-Some
+returns-in-Some c =
+    known (λ old new. Tells c.args.line.now old c.code_of-code.result new) _ _ (Some c.deref_mut.result.now) (Some _)
+    (c.in-Some.ensures.taken ∙ ap Some (sym c.deref_mut.ensures.value)) c.put.ensures
+    (c.code_of-code.ensures ∙ ap code_of c.line.ensures.reply, c.line.ensures.told)

@@ -197,7 +197,7 @@ choose_library() {
 # `rt try` knows programs alone. So the library is made of a program that calls each export: its code is taken as text before it is
 # optimized, where a program's functions are its own, and the exports are made public, and its main is not.
 build_library() {
-    say "no proved library of these sources is here: building it without proofs, once (rt ci proves)"
+    say "no proved library of these sources is here: building it without proofs, once (FALKIRK_BUILD=proved makes the proved one)"
     write_calls && copy_kit && take_exports || return
     echo "1 of 1, compiling" >"$room/part"
     (cd "$room/repo/crates/calls" && exec "$copy/bin/rt" try calls) >"$room/log" 2>&1 </dev/null &

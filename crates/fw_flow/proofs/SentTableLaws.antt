@@ -1,6 +1,7 @@
 -- What a table of what a sequence sent counts.
-use Rattle.std.proofs.Common.{◌≡◌, ◌↔◌, ℕ, zero, suc, ◌+◌, ◌-◌, ◌^◌, ◌<◌, ◌≤◌, true, false, cond, min, nat_lt, add-one, Some, Bool, List, [], ◌∷◌, ◌++◌, length, get_or, take, filter, refl, sym, ap, subst, ◌∙◌, arith}
+use Rattle.std.proofs.Common.{◌≡◌, ◌↔◌, ℕ, zero, suc, ◌+◌, ◌-◌, ◌^◌, ◌<◌, ◌≤◌, true, false, cond, min, nat_lt, add-one, Some, Bool, List, [], ◌∷◌, ◌++◌, length, get_or, take, drop, filter, refl, sym, ap, subst, ◌∙◌, arith}
 use Rattle.std.specs.Prelude.{slice_get}
+use Rattle.std.specs.List.{AllByRecursion}
 use Rattle.std.specs.List.Sorted.{IsNonDecreasingBy, IsPartitionPoint}
 use Rattle.std.proofs.lemmas.List.{map-append, take-map, get_or-map, length-map, length-append, get_or_append_left}
 use Rattle.std.proofs.Math.Seq.{get_or-append_seam, take-suc}
@@ -8,6 +9,7 @@ use Rattle.std.proofs.lemmas.List.Sorted.{IsNonDecreasingBy-push, IsNonDecreasin
 use Rattle.std.proofs.lemmas.List.Kept.{IsNonDecreasingBy-filter}
 use Rattle.std.proofs.lemmas.List.Elements.{filter-append}
 use Rattle.std.proofs.lemmas.Option.{get_or_from_slice_get, slice_get_within}
+use Rattle.std.proofs.lemmas.Bool.{ltb-true, ltb-false}
 use Rattle.std.proofs.lemmas.Bool.Decides.{nat_tests}
 use Rattle.fw_flow.specs.declared.sent_table.SentInEpoch.{SentInEpoch}
 use Rattle.fw_flow.specs.Projection.{first_coordinate, table_count}
@@ -73,6 +75,26 @@ count-below limit place total es xs ys table x y t l p k =
     ∙ sym (count-parted limit xs place l (λ k d h. p.0 k d (omega arith) h) p.1)
     ∙ ap (λ zs. table_count (λ t. nat_lt (first_coordinate t) limit) (counts_of zs)) x
     ∙ ap (table_count (λ t. nat_lt (first_coordinate t) limit)) t)
+
+-- the entries before a point, where the epochs of those before it are below a limit
+pub below-first : (limit place : ℕ) (es : List SentInEpoch) → place ≤ length es
+    → ((k : ℕ) (d : SentInEpoch) → k < place → nat_lt (get_or es k d).epoch limit ≡ true)
+    → AllByRecursion (λ (e : ℕ × ℕ). e.0 < limit) (take place (counts_of es))
+below-first limit zero [] l below = tt
+below-first limit zero (e ∷ es) l below = tt
+below-first limit (suc p) [] l below = absurd (omega arith)
+below-first limit (suc p) (e ∷ es) l below =
+    (ltb-true e.epoch limit (below 0 e (omega arith)), below-first limit p es (omega arith) (λ k d h. below (suc k) d (omega arith)))
+
+-- the entries from a point on, where the epochs of those from it on are not below a limit
+pub others-from : (limit place : ℕ) (es : List SentInEpoch)
+    → ((k : ℕ) (d : SentInEpoch) → place ≤ k → k < length es → nat_lt (get_or es k d).epoch limit ≡ false)
+    → AllByRecursion (λ (e : ℕ × ℕ). limit ≤ e.0) (drop place (counts_of es))
+others-from limit zero [] past = tt
+others-from limit (suc p) [] past = tt
+others-from limit zero (e ∷ es) past =
+    (ltb-false e.epoch limit (past 0 e (omega arith) (omega arith)), others-from limit zero es (λ k d h i. past (suc k) d (omega arith) (omega arith)))
+others-from limit (suc p) (e ∷ es) past = others-from limit p es (λ k d h i. past (suc k) d (omega arith) (omega arith))
 
 -- ---- an entry more
 

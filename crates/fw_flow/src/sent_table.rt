@@ -1,5 +1,6 @@
 //! How many messages a sequence sent, by epoch.
-ghost use Rattle.std.specs.Prelude.{◌≡◌, ◌↔◌, ℕ, ◌^◌, ◌-◌, ◌≤◌, true, nat_lt, min, [], ◌∷◌, ◌++◌, length, take, filter, slice_get, IsTrue, IfOk, OnOk, OnErr};
+ghost use Rattle.std.specs.Prelude.{◌≡◌, ◌↔◌, ℕ, ◌^◌, ◌-◌, ◌<◌, ◌≤◌, true, nat_lt, min, [], ◌∷◌, ◌++◌, length, take, drop, filter, slice_get, IsTrue, IfOk, OnOk, OnErr};
+ghost use Rattle.std.specs.List.{AllByRecursion};
 ghost use Rattle.fw_frontier.specs.Front.{inside};
 ghost use Rattle.fw_flow.specs.Projection.{first_coordinate, table_count};
 ghost use Rattle.fw_flow.specs.SentTable.{EpochsAscend, counts_of, HasRunningSums};
@@ -105,6 +106,17 @@ impl SentTable {
     {
         let entry = self.entries.get(place)?;
         Some((entry.epoch, entry.count))
+    }
+
+    /// The place of the first entry whose epoch is not below a limit, or how many entries there are. It halves the table until it
+    /// finds the limit.
+    pub fn first_from(&self, limit: u64) -> usize
+        ensures within { result ≤ length self.now }
+        ensures below { AllByRecursion (λ entry. entry.0 < limit) (take result self.now) }
+        ensures from { AllByRecursion (λ entry. limit ≤ entry.0) (drop result self.now) }
+    {
+        self.entries
+            .partition_point(|entry| u64::from(entry.epoch) < limit)
     }
 
     /// How many messages were sent in all, or `u64::MAX` where they were more.

@@ -16,7 +16,7 @@ use Rattle.fw_lemmas.proofs.Lists.{last_of}
 use Rattle.fw_time.specs.Stamp.{Stamp, leq, same, stamp_cmp}
 use Rattle.fw_time.proofs.StampLaws.{same-is}
 use Rattle.fw_frontier.specs.Frontier.{Frontier}
-use Rattle.fw_frontier.specs.Front.{Front}
+use Rattle.fw_frontier.specs.Front.{Front, inside}
 use Rattle.fw_frontier.specs.declared.state.SentCount.{SentCount}
 use Rattle.fw_flow.specs.Projection.{table_count}
 use Rattle.fw_flow.specs.SentTable.{EpochsAscend}
@@ -166,6 +166,16 @@ pub record AreToldOf (among : Frontier) (table : List (ℕ × ℕ)) (sends : Lis
 pub told-none : (among : Frontier) → AreToldOf among [] []
 told-none among = record { told = λ g. refl; parts = tt; below = λ x a. tt; rise = λ o. tt }
 
+-- of a table of which no epoch is among them nothing is told
+pub told-nothing : (among : Frontier) (table : List (ℕ × ℕ)) → AllByRecursion (λ (e : ℕ × ℕ). among (e.0 ∷ []) ≡ false) table → AreToldOf among table []
+told-nothing among table out = record { told = λ g. none g table out; parts = tt; below = λ x a. tt; rise = λ o. tt }
+  where
+    none : (g : Frontier) (es : List (ℕ × ℕ)) → AllByRecursion (λ (e : ℕ × ℕ). among (e.0 ∷ []) ≡ false) es → 0 ≡ table_count (λ t. among t && g t) es
+    none g [] a = refl
+    none g (e ∷ es) a =
+        let rest = table_count (λ t. among t && g t) es in
+        none g es a.1 ∙ sym (ap (λ b. cond (b && g (e.0 ∷ [])) (e.1 + rest) rest) a.0)
+
 pub told-all : (among : Frontier) (table : List (ℕ × ℕ)) (sends : List SentCount) → AreToldOf among table sends → AreSendsOf among table sends
 told-all among table sends a = record { told = a.told; parts = a.parts; follow = λ o. rise-follow 0 sends (a.rise o) }
 
@@ -308,6 +318,14 @@ taken-last cause old new x last is =
 told-epoch : (since : Option Front) (f : Front) (first limit x : ℕ) → IsFirstSince since first → IsEpochLimit f limit → x < 2 ^ 32
     → (not (nat_lt x first) && nat_lt x limit) ≡ told_epochs since f (x ∷ [])
 told-epoch since f first limit x from to l = ap (λ b. b && nat_lt x limit) (from x l) ∙ ap (λ b. is_stamp_since since (x ∷ []) && b) (to x l)
+
+-- of epochs before the first one nothing is told
+pub told-before : (since : Option Front) (f : Front) (first : ℕ) (table : List (ℕ × ℕ)) → IsFirstSince since first → first ≤ 2 ^ 32
+    → AllByRecursion (λ (e : ℕ × ℕ). e.0 < first) table → AreToldOf (told_epochs since f) table []
+told-before since f first table from few a =
+    told-nothing (told_epochs since f) table
+    (each-weaker (λ (e : ℕ × ℕ). e.0 < first) (λ (e : ℕ × ℕ). told_epochs since f (e.0 ∷ []) ≡ false) table
+    (λ e l. ap (λ b. b && inside f (e.0 ∷ [])) (sym (from e.0 (omega (arith, few, l))) ∙ ap not (lt-ltb e.0 first l))) a)
 
 pub told-next : (since : Option Front) (f : Front) (table : List (ℕ × ℕ)) (first limit i x count : ℕ) (old new : List SentCount) → IsFirstSince since first → IsEpochLimit f limit
     → i < length table → slice_get table i ≡ Some (x, count) → AreToldOf (told_epochs since f) (take i table) old

@@ -1,5 +1,5 @@
 //! The record of a checkpoint, made of the parts.
-ghost use Rattle.std.specs.Prelude.{◌≡◌, ◌<◌, ◌^◌, ◌&&◌, ◌++◌, ◌∷◌, [], ℕ, true, not, nat_lt, length, map, Option, None, IfOk, OnOk, IfSome};
+ghost use Rattle.std.specs.Prelude.{◌≡◌, ◌<◌, ◌≤◌, ◌^◌, ◌&&◌, ◌++◌, ◌∷◌, [], ℕ, true, not, nat_lt, length, map, Option, None, IfOk, OnOk, IfSome};
 ghost use Rattle.std.specs.List.{AllByRecursion, AllZip};
 ghost use Rattle.std.specs.Option.{option_copied};
 ghost use Rattle.fw_time.specs.Stamp.{in_domain, leq, same};
@@ -219,7 +219,8 @@ fn messages_told(
 }
 
 /// What a sequence sent in each epoch of its table that is inside, and outside an earlier front. The fronts are looked at once; of
-/// each epoch numbers are compared alone. The error is want of memory, or that a sum would not fit 64 bits.
+/// each epoch numbers are compared alone, and what lies inside the earlier front is passed over at once. The error is want of
+/// memory, or that a sum would not fit 64 bits.
 pub fn sends_inside(
     alloc: Global,
     table: &SentTable,
@@ -231,7 +232,7 @@ pub fn sends_inside(
     let first = first_since(since);
     let limit = limit_of(front);
     let mut sends = Vec::new(alloc);
-    for place in 0..table.len() {
+    for place in table.first_from(first)..table.len() {
         if let Some((epoch, count)) = table.get(place) {
             add_sends(&mut sends, first, limit, epoch, count)?;
         }
@@ -241,7 +242,8 @@ pub fn sends_inside(
 
 // The least epoch outside an earlier front; 0 where there is none.
 fn first_since(since: Option<&Front>) -> u64
-    ensures { IsFirstSince (option_copied since.entry) result }
+    ensures since { IsFirstSince (option_copied since.entry) result }
+    ensures few { result ≤ 2 ^ 32 }
 {
     match since {
         Some(front) => limit_of(front),
@@ -251,7 +253,8 @@ fn first_since(since: Option<&Front>) -> u64
 
 // The least epoch outside, or a number greater than any epoch where all are inside.
 fn limit_of(front: &Front) -> u64
-    ensures { IsEpochLimit front.now result }
+    ensures limit { IsEpochLimit front.now result }
+    ensures few { result ≤ 2 ^ 32 }
 {
     let mut limit = 1 << 32;
     for o in front.outside() {
@@ -262,7 +265,8 @@ fn limit_of(front: &Front) -> u64
 
 // The lesser of a limit and the epoch of an outside stamp, if it has one coordinate.
 fn lowered(limit: u64, o: &Stamp) -> u64
-    ensures { (epoch : ℕ) → nat_lt epoch result ≡ (not (leq o.now (epoch ∷ [])) && nat_lt epoch limit) }
+    ensures below { (epoch : ℕ) → nat_lt epoch result ≡ (not (leq o.now (epoch ∷ [])) && nat_lt epoch limit) }
+    ensures lesser { result ≤ limit }
 {
     if o.len() != 1 {
         return limit;

@@ -17,5 +17,6 @@ mod queue;
 mod stamps;
 
 pub use log::MsgLog;
+pub use message::comes_from;
 pub use queue::Queue;
 pub use stamps::PendingStamps;

@@ -1,5 +1,5 @@
 //! What a node may have to send again on an edge.
-ghost use Rattle.std.specs.Prelude.{◌≡◌, ◌↔◌, ◌&&◌, [], ◌∷◌, ◌++◌, false, true, not, filter, IsTrue, IsErr, IfOk, OnOk, OnErr};
+ghost use Rattle.std.specs.Prelude.{◌≡◌, ◌↔◌, ◌&&◌, [], ◌∷◌, ◌++◌, false, true, not, filter, IsTrue, IsErr, IfOk, IfSome, OnOk, OnErr};
 ghost use Rattle.fw_frontier.specs.Front.{inside};
 ghost use Rattle.fw_flow.specs.Projection.{all_inside};
 ghost use Rattle.fw_model.specs.Filtering.{messages_from, messages_outside};
@@ -85,6 +85,17 @@ impl MsgLog {
             }
         }
         Ok(in_order(copies, self.ascends))
+    }
+
+    /// The messages in order, as they lie, where they are known to ascend.
+    pub fn ascending(&self) -> Option<&[Message]>
+        ensures { IfSome result (λ ms. ms.now ≡ self.now.messages) }
+    {
+        if self.ascends {
+            Some(&self.messages)
+        } else {
+            None
+        }
     }
 
     /// Copies of the messages all of whose causes are inside, in order. The only error is want of memory.

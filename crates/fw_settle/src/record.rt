@@ -3,10 +3,11 @@ ghost use Rattle.std.specs.Prelude.{◌≡◌, ◌<◌, ◌≤◌, ◌^◌, ◌&
 ghost use Rattle.std.specs.List.{AllByRecursion, AllZip};
 ghost use Rattle.std.specs.Option.{option_copied};
 ghost use Rattle.fw_time.specs.Stamp.{in_domain, leq, same};
-ghost use Rattle.fw_frontier.specs.Front.{IsCanonical};
+ghost use Rattle.fw_frontier.specs.Front.{IsCanonical, inside};
 ghost use Rattle.fw_flow.specs.declared.event.Message.{Message as Sent};
 ghost use Rattle.fw_flow.specs.Dataflow.{kind_of, policy_of, in_edges, out_edges, bounds_of, is_sequence_kind};
 ghost use Rattle.fw_flow.specs.Restoring.{can_resend};
+ghost use Rattle.fw_model.specs.Filtering.{messages_from};
 ghost use Rattle.fw_node.specs.declared.node.Node.{Node as Table};
 ghost use Rattle.fw_progress.specs.Counts.{sent_of};
 ghost use Rattle.fw_progress.specs.Trace.{HaveLists};
@@ -17,7 +18,7 @@ ghost use Rattle.fw_running.specs.Kept.{log_at, table_of};
 ghost use Rattle.fw_running.specs.Shaped.{IsShaped};
 
 use fw_bag::{Rec, Recs};
-use fw_edge::MsgLog;
+use fw_edge::{MsgLog, comes_from};
 use fw_flow::{EdgeId, Message, NodeId, OfEdge, OfEdges, Recorded, SentTable};
 use fw_frontier::{Entries, Front, SentCount, SentCounts, State};
 use fw_record::{Checkpoint, Log, Logged};
@@ -198,10 +199,51 @@ fn logged_at(
     }
     for edge in running.flow.out_edges(node) {
         if let Some(log) = running.parts.logs.get(*edge) {
-            add_logged(&mut all, *edge, messages_told(log, since, front)?)?;
+            add_told(&mut all, *edge, log, since, front)?;
         }
     }
     Ok(all)
+}
+
+// Adds copies of the messages in a log that the events inside sent, or those since an earlier front. Where all are asked for and
+// are in order as they lie, none is copied twice.
+fn add_told(
+    all: &mut Vec<Logged>,
+    edge: EdgeId,
+    log: &MsgLog,
+    since: Option<&Front>,
+    front: &Front,
+) -> Result<(), AllocError>
+    ensures added { OnOk result (all.new.items ≡ all.old.items ++ map (λ (m : Sent). record { edge = edge; message = m })
+        (messages_told (option_copied since.entry) front.now log.now.messages)) }
+    ensures small { OnOk result (AllByRecursion (λ l. IsRec l.message.rec) all.old.items
+        → AllByRecursion (λ l. IsRec l.message.rec) all.new.items) }
+{
+    match (since, log.ascending()) {
+        (None, Some(messages)) => add_caused(all, edge, messages, front),
+        _ => add_logged(all, edge, messages_told(log, since, front)?),
+    }
+}
+
+// Adds copies of the messages on an edge all of whose causes are inside.
+fn add_caused(
+    all: &mut Vec<Logged>,
+    edge: EdgeId,
+    messages: &[Message],
+    front: &Front,
+) -> Result<(), AllocError>
+    ensures added { OnOk result (all.new.items ≡ all.old.items ++ map (λ (m : Sent). record { edge = edge; message = m })
+        (messages_from (inside front.now) messages.now)) }
+    ensures small { OnOk result (AllByRecursion (λ l. IsRec l.message.rec) all.old.items
+        → AllByRecursion (λ l. IsRec l.message.rec) all.new.items) }
+{
+    all.reserve(messages.len())?;
+    for message in messages {
+        if comes_from(message, front) {
+            all.push(logged(edge, message.copy()))?;
+        }
+    }
+    Ok(())
 }
 
 // Copies of the messages in a log that the events inside sent, or those since an earlier front, in order.

@@ -31,9 +31,9 @@ use Rattle.fw_running.specs.Places.{IsFirstWhere}
 use Rattle.fw_running.specs.Ready.{CanAcknowledge, CanDeliver, CanInject, IsOwing}
 use Rattle.fw_running.specs.ReadyState.{ReadyState}
 use Rattle.fw_running.specs.Stands.{Stands}
-use Rattle.fw_running.specs.Steps.{AnswersFirst, FirstMayCall, HasEager, IsUndamaged, TakesFirstStep, TakesStep, Trusts, effect_of}
+use Rattle.fw_running.specs.Steps.{AnswersFirst, FirstMayCall, HasEager, IsUndamaged, TakesStep, Trusts, effect_of}
 use Rattle.fw_events.specs.Noticing.{AnswersNotice, TakesNotice}
-use Rattle.fw_engine.specs.Searching.{with_ready, HasNoNotice, HasNotice, IsFirstNotified, IsSearched, NoneToPersist, IsAny, InjectsFirst, TakesFirstAfter}
+use Rattle.fw_engine.specs.Searching.{with_ready, HasNoNotice, HasNotice, IsFirstNotified, IsSearched, NoneToPersist, InjectsFirst, TakesFirstAfter}
 use Rattle.fw_engine.proofs.AckLaws.{acknowledges, idle-acknowledges}
 use Rattle.fw_engine.proofs.FirstCallLaws.{delivery-calls, notification-calls, progress-calls}
 use Rattle.fw_engine.proofs.FirstStepLaws.{earlier_answers, first_answers, ready_stands}
@@ -276,20 +276,3 @@ nothing-first old new ready records is first = λ sys state s none. record {
   takes = nothing-taken sys state none (λ i k. no_injection sys old records state s i k (first i));
   stands = with_ready_stands sys state old new records ready is s;
 }
-
--- ---- after what comes before the injections
-
--- something that comes before the injections is the first step
-pub earlier-did : (old new : Running) (before after : Option Records) (shown : Shown) → TakesFirstAfter IsAny old before (Ok (Did shown)) new after
-    → TakesFirstStep old before (Ok (Did shown)) new after
-earlier-did old new before after shown t = λ sys state s. (t sys state s tt).1
-
-pub earlier-err : (old new : Running) (before after : Option Records) (e : EngineFault) → TakesFirstAfter IsAny old before (Err e) new after
-    → TakesFirstStep old before (Err e) new after
-earlier-err old new before after e t = λ sys state s. t sys state s tt
-
--- where nothing does, the first injection is
-pub earlier-idle : (old mid new : Running) (before between after : Option Records) (result : Result Stepped EngineFault)
-    → TakesFirstAfter IsAny old before (Ok Idle) mid between → InjectsFirst mid between result new after → TakesFirstStep old before result new after
-earlier-idle old mid new before between after result t injects = λ sys state s.
-    let none = t sys state s tt in injects sys state none.1 none.0

@@ -263,11 +263,12 @@ within-err old new before after came fault.StoreFault t = λ sys state s. t sys 
 within-err old new before after came (fault.Damaged id) t = λ sys state s. t sys state s tt
 within-err old new before after came fault.NoMemory t = λ sys state s. tt
 
-pub within-idle : (old mid new : Running) (before between after : Option Records) (came : List ℕ) (result : Result Stepped EngineFault)
-    → TakesFirstAfter IsAny old before (Ok Idle) mid between → InjectsWithin came mid between result new after
-    → TakesFirstWithin came old before result new after
-within-idle old mid new before between after came result t injects = λ sys state s.
-    let none = t sys state s tt in injects sys state none.1 none.0
+-- what was taken before the injections, or refused
+pub within-some : (old new : Running) (before after : Option Records) (came : List ℕ) (result : Result Stepped EngineFault) → (result ≡ Ok Idle → ⊥)
+    → TakesFirstAfter IsAny old before result new after → TakesFirstWithin came old before result new after
+within-some old new before after came (Ok (Did shown)) some t = within-earlier old new before after came shown t
+within-some old new before after came (Ok Idle) some t = absurd (some refl)
+within-some old new before after came (Err e) some t = within-err old new before after came e t
 
 -- ---- what an engine answers
 

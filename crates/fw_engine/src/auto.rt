@@ -42,10 +42,11 @@ pub(crate) fn take_first<K: Store>(
     ensures idle { result ≡ Ok Idle → store.new ≡ store.old }
     ensures draws { StepDraws running.old (K.view store.old).records result running.new (K.view store.new).records }
 {
-    match take_earlier(running, store)? {
-        Stepped::Did(effect) => Ok(Stepped::Did(effect)),
-        Stepped::Idle => inject_first(running),
+    let taken = take_earlier(running, store);
+    if took_nothing(&taken) {
+        return inject_first(running);
     }
+    taken
 }
 
 /// The same where no input injects more batches than these, by its place.
@@ -62,10 +63,18 @@ pub(crate) fn take_first_within<K: Store>(
     ensures idle { result ≡ Ok Idle → store.new ≡ store.old }
     ensures draws { StepDraws running.old (K.view store.old).records result running.new (K.view store.new).records }
 {
-    match take_earlier(running, store)? {
-        Stepped::Did(effect) => Ok(Stepped::Did(effect)),
-        Stepped::Idle => inject_within(running, came),
+    let taken = take_earlier(running, store);
+    if took_nothing(&taken) {
+        return inject_within(running, came);
     }
+    taken
+}
+
+// Whether no step was enabled. What was taken is looked at as it lies, and not moved.
+fn took_nothing(taken: &Result<Stepped, EngineFault>) -> bool
+    ensures { IsTrue result ↔ (taken.now ≡ Ok Idle) }
+{
+    matches!(taken, Ok(Stepped::Idle))
 }
 
 // The same, but that no input injects: Idle where nothing comes before the injections.

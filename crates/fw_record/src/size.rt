@@ -27,12 +27,21 @@ fn of_entries(entries: &Entries) -> usize {
     }
 }
 
+/// The bytes of a logged message. Most have one cause, and its size alone is added.
+fn of_logged(logged: &Logged) -> usize {
+    let message = &logged.message;
+    let size = COUNT + of_stamp(&message.at) + REC;
+    match message.causes.stamps() {
+        [cause] => size + of_stamp(cause),
+        causes => causes
+            .iter()
+            .fold(size, |size, cause| size.saturating_add(of_stamp(cause))),
+    }
+}
+
 fn of_log(messages: &[Logged]) -> usize {
     messages.iter().fold(NUMBER, |size, logged| {
-        let causes = logged.message.causes.stamps().iter();
-        causes
-            .fold(size, |size, cause| size.saturating_add(of_stamp(cause)))
-            .saturating_add(COUNT + of_stamp(&logged.message.at) + REC)
+        size.saturating_add(of_logged(logged))
     })
 }
 

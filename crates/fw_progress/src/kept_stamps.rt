@@ -1,5 +1,5 @@
 //! Stamps that are kept thinned inside a base.
-ghost use Rattle.std.specs.Prelude.{◌≡◌, ◌≤◌, ◌||◌, ◌&&◌, not, [], ◌∷◌, ◌++◌, List, ℕ, filter, insert, length, None, IfSome, IfNone, IfOk, OnErr};
+ghost use Rattle.std.specs.Prelude.{◌≡◌, ◌≤◌, ◌||◌, ◌&&◌, not, [], ◌∷◌, ◌++◌, List, ℕ, filter, insert, length, None, IfSome, IfNone, IfOk, OnOk, OnErr};
 ghost use Rattle.std.specs.List.{list_any};
 ghost use Rattle.std.specs.List.Sorted.{IsStrictlySortedBy};
 ghost use Rattle.std.specs.BTreeSet.{insert_key};
@@ -65,7 +65,7 @@ impl KeptStamps {
         ensures err { OnErr result (self.new ≡ self.old) }
     {
         if let Some(i) = place_for(&self.stamps, at) {
-            self.stamps.insert(i, at.copy())?;
+            put_at(&mut self.stamps, i, at)?;
         }
         Ok(())
     }
@@ -180,6 +180,20 @@ fn place_for(stamps: &[Stamp], at: &Stamp) -> Option<usize>
         Ordering::Equal => None,
         Ordering::Greater => stamps.binary_search(at).err(),
     }
+}
+
+/// Puts a stamp in at a place; behind the last one nothing is moved.
+fn put_at(stamps: &mut Vec<Stamp>, i: usize, at: &Stamp) -> Result<(), AllocError>
+    requires { i ≤ length stamps.old.items }
+    ensures ok { OnOk result (stamps.new.items ≡ insert stamps.old.items i at.now) }
+    ensures err { OnErr result (stamps.new.items ≡ stamps.old.items) }
+{
+    if i == stamps.len() {
+        stamps.push(at.copy())?;
+    } else {
+        stamps.insert(i, at.copy())?;
+    }
+    Ok(())
 }
 
 /// Whether the first stamp is lesser.

@@ -1,4 +1,4 @@
-use Rattle.std.proofs.Common.{◌≡◌, ◌++◌, ◌∙◌, List, map, IfOk, OnOk, ap, sym, subst}
+use Rattle.std.proofs.Common.{◌≡◌, ◌++◌, ◌∙◌, List, map, OnOk, ap, sym, subst}
 use Rattle.std.specs.Option.{option_copied}
 use Rattle.fw_lemmas.proofs.Filters.{filter-true}
 use Rattle.fw_frontier.specs.Front.{inside}

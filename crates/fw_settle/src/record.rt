@@ -273,8 +273,9 @@ pub fn sends_inside(
 {
     let first = first_since(since);
     let limit = limit_of(front);
-    let mut sends = Vec::new(alloc);
-    for place in table.first_from(first)..table.len() {
+    let start = table.first_from(first);
+    let mut sends = Vec::with_capacity(alloc, table.len() - start)?;
+    for place in start..table.len() {
         if let Some((epoch, count)) = table.get(place) {
             add_sends(&mut sends, first, limit, epoch, count)?;
         }

@@ -9,11 +9,11 @@ use Rattle.fw_settle.proofs.record.sends_inside.Goals as goal
 
 pub loop-place-init : goal.loop-place-init
 loop-place-init c =
-    let seen = take c.first_from-place.result c.args.table.now in
-    let none : c.new-sends.result.items ≡ [] = search rules in
+    let seen = take c.first_from-start.result c.args.table.now in
+    let none : c.in_ok-sends.sends.items ≡ [] = search rules in
     subst (AreToldOf (told_epochs (option_copied c.args.since) c.args.front.now) seen) (sym none)
     (told-before (option_copied c.args.since) c.args.front.now c.first_since-first.result seen c.first_since-first.ensures.since
-    c.first_since-first.ensures.few c.first_from-place.ensures.below)
+    c.first_since-first.ensures.few c.first_from-start.ensures.below)
 
 pub loop-place-preserved : goal.loop-place-preserved
 loop-place-preserved c = elim c.match-get.branch [

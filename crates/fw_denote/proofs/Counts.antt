@@ -1,5 +1,5 @@
 -- Bags of timed recs as their counts.
-use Rattle.std.proofs.Common.{◌≡◌, ℕ, suc, ◌+◌, ◌<◌, Bool, true, false, cond, List, [], ◌∷◌, length, reverse, take, get_or, refl, sym, ap, ◌∙◌, arith}
+use Rattle.std.proofs.Common.{◌≡◌, ℕ, suc, ◌+◌, ◌<◌, Bool, false, List, [], ◌∷◌, length, reverse, take, get_or, refl, sym, ap, ◌∙◌, arith}
 use Rattle.std.specs.List.{AllByRecursion, fold}
 use Rattle.std.specs.List.Sorted.{IsPermutation, IsSortedBy, IsSorted}
 use Rattle.std.specs.Ordering.{is_gt, is_lt, ordering_reverse}
@@ -11,31 +11,19 @@ use Rattle.std.proofs.Math.Seq.{take-suc}
 use Rattle.fw_time.specs.Stamp.{Stamp}
 use Rattle.fw_bag.specs.declared.rec.Rec.{Rec}
 use Rattle.fw_flow.specs.WholeBags.{Timed, timed_cmp, in_order}
-use Rattle.fw_model.proofs.TimedLaws.{timed_order, IsAscendingTimed, ascending-nil, ascending-cons, ascending-in_order, above-weaker, how_often_timed, how_often-in_order, same_from_how_often, in_order-ascending, in_order-twice}
-use Rattle.fw_model.proofs.DistinctLaws.{timed_cmp-test}
-use Rattle.fw_model.proofs.WeightLaws.{weigh, one, is_at}
+use Rattle.fw_model.proofs.TimedLaws.{timed_order, IsAscendingTimed, ascending-nil, ascending-cons, ascending-in_order, above-weaker, how_often-in_order, same_from_how_often, in_order-ascending, in_order-twice}
+use Rattle.fw_model.proofs.DistinctLaws.{how_often_timed-one}
+use Rattle.fw_model.proofs.WeightLaws.{weigh, one}
 
 -- each timed rec is equally often in both
 pub record AreOneBag (xs ys : List Timed) : Type 0 where
   pub weighs : (t : Stamp) (q : Rec) → weigh (one t q) xs ≡ weigh (one t q) ys
 
-counted : (q : Timed) (xs : List Timed) → how_often_timed q xs ≡ weigh (one q.at q.rec) xs
-unfolding weigh one
-counted q [] = refl
-counted q (x ∷ xs) =
-    ap (λ b. cond b (how_often_timed q xs + 1) (how_often_timed q xs)) (timed_cmp-test q x)
-    ∙ cases (is_at q.at q.rec x) (counted q xs)
-  where
-    cases : (b : Bool) → how_often_timed q xs ≡ weigh (one q.at q.rec) xs
-        → cond b (how_often_timed q xs + 1) (how_often_timed q xs) ≡ cond b 1 0 + weigh (one q.at q.rec) xs
-    cases true h = omega arith
-    cases false h = omega arith
-
 -- one bag has one list in order
 pub one_bag : (xs ys : List Timed) → AreOneBag xs ys → in_order xs ≡ in_order ys
 one_bag xs ys h =
     same_from_how_often (in_order xs) (in_order ys) (ascending-in_order xs) (ascending-in_order ys)
-    (λ q. how_often-in_order q xs ∙ counted q xs ∙ h.weighs q.at q.rec ∙ sym (counted q ys) ∙ sym (how_often-in_order q ys))
+    (λ q. how_often-in_order q xs ∙ how_often_timed-one q xs ∙ h.weighs q.at q.rec ∙ sym (how_often_timed-one q ys) ∙ sym (how_often-in_order q ys))
 
 pub in_order_again : (xs : List Timed) → in_order (in_order xs) ≡ in_order xs
 in_order_again xs = in_order-twice xs

@@ -4,20 +4,18 @@ use Rattle.std.proofs.lemmas.Bool.{cond_both, cases_Bool, eqb-true}
 use Rattle.std.specs.List.{AllByRecursion}
 use Rattle.fw_lemmas.proofs.Each.{each-weaker}
 use Rattle.fw_time.specs.Stamp.{Stamp, same}
-use Rattle.fw_time.proofs.StampLaws.{leq-refl}
 use Rattle.fw_flow.specs.declared.node.Edge.{Edge}
-use Rattle.fw_flow.specs.Dataflow.{System, Dataflow, kind_of, sender, receiver, edges_into, in_edges, batches_of, send_stamp_of_kind}
+use Rattle.fw_flow.specs.Dataflow.{System, Dataflow, kind_of, sender, receiver, edges_into, in_edges, batches_of}
 use Rattle.fw_flow.specs.WellFormed.{IsWellFormed}
 use Rattle.fw_flow.specs.Ranks.{is_looped}
 use Rattle.fw_flow.specs.WholeBags.{Timed, timed_recs, timed_where, in_order, outputs_of_kind, outputs_of}
 use Rattle.fw_model.specs.Denotation.{Family}
 use Rattle.fw_model.specs.LawsOfDenotation.{RecsAtStampsDecideBag, OutBagsDependOnLesserMeasure}
-use Rattle.fw_model.proofs.KindSorts.{local-from_loop}
+use Rattle.fw_model.proofs.KindSorts.{inner-from_loop}
 use Rattle.fw_model.proofs.TimedLaws.{IsAscendingTimed, ascending-in_order, ascending-filter, how_often_timed, how_often-in_order, same_from_how_often, how_often-filter_in, how_often-filter_out}
-use Rattle.fw_model.specs.Wholes.{part, takes_part_of}
-use Rattle.fw_model.specs.Reads.{reads_of}
-use Rattle.fw_model.proofs.OutputLaws.{alone-sent}
-use Rattle.fw_model.proofs.WholeLaws.{makes_lawfully}
+use Rattle.fw_model.specs.Wholes.{part, takes_part_of, AgreeWhere}
+use Rattle.fw_model.proofs.DistinctLaws.{how_often_timed-one}
+use Rattle.fw_model.proofs.WholeLaws.{makes_lawfully, takes-sent}
 use Rattle.fw_model.proofs.MeasureLaws.{sends_to_loop}
 use Rattle.fw_model.proofs.StampLaws.{same-is, same-refl}
 use Rattle.fw_model.specs.Measure.{Measure}
@@ -43,10 +41,6 @@ unfolding in_edges receiver
 in_edges-each flow p =
     edges_into-each flow.edges p (record { name = []; sender = length flow.nodes; receiver = length flow.nodes }) flow.edges 0 (omega arith)
     (λ k h. let e : 0 + k ≡ k = omega arith in ap (λ i. get_or flow.edges i (record { name = []; sender = length flow.nodes; receiver = length flow.nodes })) e)
-
-maps-agree : {A B C : Type 0} (h : B → C) (f g : A → B) (xs : List A) → AllByRecursion (λ x. h (f x) ≡ h (g x)) xs → map h (map f xs) ≡ map h (map g xs)
-maps-agree h f g [] a = refl
-maps-agree h f g (x ∷ xs) a = ap (λ y. y ∷ map h (map f xs)) a.0 ∙ ap (λ ys. h (g x) ∷ ys) (maps-agree h f g xs a.1)
 
 -- two functions that agree on the elements of a list give one list
 pub map-agree : {A B : Type 0} (f g : A → B) (xs : List A) → AllByRecursion (λ x. f x ≡ g x) xs → map f xs ≡ map g xs
@@ -98,30 +92,28 @@ unlooped-agree sys w by f g a b e l x h k =
     ∙ ap (λ bs. how_often_timed x (F bs)) bags
     ∙ sym (how_often-in_order x (F (map g (in_edges flow q))))
 
-looped-agree : (sys : System) → IsWellFormed sys.flow → (by : Measure sys.flow) (f g : Family) → AreAscending f → AreAscending g
-    → (e : ℕ) → e < length sys.flow.edges → (x : Timed)
+looped-agree : (sys : System) → IsWellFormed sys.flow → (by : Measure sys.flow) (f g : Family) → (e : ℕ) → e < length sys.flow.edges → (x : Timed)
     → AgreeBelow sys.flow by f g (sender sys.flow e) (by.measure (receiver sys.flow e) x.at)
     → is_looped sys.flow (receiver sys.flow e) ≡ true
     → how_often_timed x (outputs_of sys f (sender sys.flow e)) ≡ how_often_timed x (outputs_of sys g (sender sys.flow e))
-looped-agree sys w by f g a b e l x h k =
+looped-agree sys w by f g e l x h k =
     let flow = sys.flow in
     let q = sender flow e in
     let t = x.at in
     let ds = in_edges flow q in
     let kind = kind_of flow q in
-    let pass : Stamp → Bool = takes_part_of flow kind t in
     let F : List (List Timed) → List Timed = outputs_of_kind flow kind (batches_of sys q) in
-    let local = local-from_loop flow kind (sends_to_loop flow w e l k) in
-    let bags = maps-agree (part pass) f g ds
-    (each-weaker (λ d. (d < length flow.edges) × (receiver flow d ≡ q)) (λ d. part pass (f d) ≡ part pass (g d)) ds
-    (λ d i. parts-agree pass (f d) (g d) (a d) (b d)
-    (λ y j. h d i.0 i.1 y (by.into_looped e l k y.at t t (alone-sent (reads_of kind) (send_stamp_of_kind flow kind) local t y.at j) (leq-refl t))))
-    (in_edges-each flow q)) in
+    let inner = inner-from_loop flow kind (sends_to_loop flow w e l k) in
+    let agree = each-weaker (λ d. (d < length flow.edges) × (receiver flow d ≡ q)) (λ d. AgreeWhere (takes_part_of flow kind t) (f d) (g d)) ds
+    (λ d i u r j.
+    let y : Timed = record { at = u; rec = r } in
+    let sent = takes-sent flow kind inner t u j in
+    sym (how_often_timed-one y (f d)) ∙ h d i.0 i.1 y (by.into_looped e l k u t sent.0 sent.1 sent.2) ∙ how_often_timed-one y (g d))
+    (in_edges-each flow q) in
     how_often-in_order x (F (map f ds))
-    ∙ how_often-part x (F (map f ds)) (F (map g ds))
-    ((makes_lawfully flow kind).by_parts local (batches_of sys q) (map f ds) t
-    ∙ ap (λ bs. part (same t) (F bs)) bags
-    ∙ sym ((makes_lawfully flow kind).by_parts local (batches_of sys q) (map g ds) t))
+    ∙ how_often_timed-one x (F (map f ds))
+    ∙ (makes_lawfully flow kind).agrees inner (batches_of sys q) t x.rec f g ds agree
+    ∙ sym (how_often_timed-one x (F (map g ds)))
     ∙ sym (how_often-in_order x (F (map g ds)))
 
 -- Two families that agree on the sender's in-edges at each stamp of lesser measure give each timed rec of the measure
@@ -131,7 +123,7 @@ pub outputs-agree : (sys : System) → IsWellFormed sys.flow → (by : Measure s
     → AgreeBelow sys.flow by f g (sender sys.flow e) (by.measure (receiver sys.flow e) x.at)
     → how_often_timed x (outputs_of sys f (sender sys.flow e)) ≡ how_often_timed x (outputs_of sys g (sender sys.flow e))
 outputs-agree sys w by f g a b e l x h = elim (cases_Bool (is_looped sys.flow (receiver sys.flow e))) [
-  | inl k ↦ looped-agree sys w by f g a b e l x h k
+  | inl k ↦ looped-agree sys w by f g e l x h k
   | inr k ↦ unlooped-agree sys w by f g a b e l x h k
 ]
 

@@ -27,7 +27,7 @@ use Rattle.std.specs.List.{AllByRecursion}
 use Rattle.fw_time.specs.declared.stamp.Bounds.{Bounds}
 use Rattle.fw_model.specs.Wholes.{part, IsLawfulWhole, MakesFewer}
 use Rattle.fw_model.proofs.OutputLaws.{list_any-filter, part-part, together-part, each-together}
-use Rattle.fw_model.proofs.TimedLaws.{timed-same}
+use Rattle.fw_model.proofs.TimedLaws.{timed-same, how_often_timed}
 use Rattle.fw_flow.specs.Projection.{events_at}
 
 -- 1 for each number but 0
@@ -182,6 +182,19 @@ stamp_cmp-test s t = elim (cases_Bool (same s t)) [
 -- whether timed recs are one
 pub timed_cmp-test : (r x : Timed) → is_eq (timed_cmp r x) ≡ is_at r.at r.rec x
 timed_cmp-test r x = then_parts (stamp_cmp r.at x.at) (rec_cmp r.rec x.rec) ∙ ap (λ b. b && is_eq (rec_cmp r.rec x.rec)) (stamp_cmp-test r.at x.at)
+
+-- how often a timed rec is in a list is what the list weighs by its rec at its stamp
+pub how_often_timed-one : (q : Timed) (xs : List Timed) → how_often_timed q xs ≡ weigh (one q.at q.rec) xs
+unfolding weigh one
+how_often_timed-one q [] = refl
+how_often_timed-one q (x ∷ xs) =
+    ap (λ b. cond b (how_often_timed q xs + 1) (how_often_timed q xs)) (timed_cmp-test q x)
+    ∙ cases (is_at q.at q.rec x) (how_often_timed-one q xs)
+  where
+    cases : (b : Bool) → how_often_timed q xs ≡ weigh (one q.at q.rec) xs
+        → cond b (how_often_timed q xs + 1) (how_often_timed q xs) ≡ cond b 1 0 + weigh (one q.at q.rec) xs
+    cases true h = omega arith
+    cases false h = omega arith
 
 pub among_timed-some : (r : Timed) (xs : List Timed) → is_among_timed r xs ≡ true → 0 < weigh (one r.at r.rec) xs
 unfolding weigh

@@ -19,7 +19,6 @@ use Rattle.fw_flow.specs.declared.restoring.Restoring.TheVariants.{Anything}
 use Rattle.fw_flow.specs.declared.kind.Policy.TheVariants as policy
 use Rattle.fw_flow.proofs.Chains.{parent-no_number}
 use Rattle.fw_model.specs.Sending.{SendsByCount, SendsByStamp}
-use Rattle.fw_model.specs.Reads.{reads_of, reads_its_time_alone}
 
 -- ---- sorts
 
@@ -136,18 +135,15 @@ keeps_something policy.Logged a e = cc
 keeps_something policy.Eager a e = cc
 keeps_something policy.Full a e = cc
 
--- ---- what a kind sends at a stamp
+-- ---- kinds whose messages are at a loop's times
 
--- whether what a node of the kind sends at a stamp is made of what came at the stamps that send there
-abbrev pub is_local_kind : Kind → Bool
-is_local_kind kind = reads_its_time_alone (reads_of kind)
-
--- a node whose messages are at a loop's times is of a local kind
-pub local-from_loop : (flow : Dataflow) (kind : Kind) → is_loop (out_domain_of_kind flow kind) ≡ true → is_local_kind kind ≡ true
-local-from_loop flow Total k = cc
-local-from_loop flow Sequence k = cc
-local-from_loop flow Ledger k = cc
-local-from_loop flow kind k = refl
+-- a node whose messages are at a loop's times is no input, no output and no sequence
+pub inner-from_loop : (flow : Dataflow) (kind : Kind) → is_loop (out_domain_of_kind flow kind) ≡ true → is_inner kind ≡ true
+inner-from_loop flow Input k = cc
+inner-from_loop flow OutputEpoch k = cc
+inner-from_loop flow OutputNumber k = cc
+inner-from_loop flow Sequence k = cc
+inner-from_loop flow kind k = refl
 
 -- ---- kinds whose messages are numbered
 

@@ -9,9 +9,8 @@ use Rattle.fw_bag.specs.declared.rec.Rec.{Rec}
 use Rattle.fw_time.specs.Stamp.{Stamp, same, leq}
 use Rattle.fw_flow.specs.Dataflow.{greatest_number}
 use Rattle.fw_flow.specs.WholeBags.{Timed, timed_where, timed_recs, timed_at_some, joint_bag}
-use Rattle.fw_model.specs.Wholes.{part, is_sent_at, takes_part}
+use Rattle.fw_model.specs.Wholes.{part, is_sent_at}
 use Rattle.fw_model.proofs.StampLaws.{same-is}
-use Rattle.fw_model.specs.Reads.{Reads, nothing_before, its_time, up_to_its_time, all_in_order, reads_its_time_alone}
 
 -- ---- stamps that are one
 
@@ -96,13 +95,6 @@ part-timed_at_some t (Some u) rs = part-timed t u rs rs (λ e. refl)
 pub sent_at-some : (t : Stamp) (at : Option Stamp) → is_sent_at t at ≡ true → at ≡ Some t
 sent_at-some t None k = absurd (cc)
 sent_at-some t (Some u) k = ap (λ v. Some v) (sym (same-is t u k))
-
--- of a node that reads its own time alone, what is sent at a stamp takes part in it
-pub alone-sent : (reads : Reads) (send : Stamp → Option Stamp) → reads_its_time_alone reads ≡ true → (t s : Stamp) → takes_part reads send t s ≡ true → send s ≡ Some t
-alone-sent nothing_before send n t s k = sent_at-some t (send s) k
-alone-sent its_time send n t s k = sent_at-some t (send s) k
-alone-sent up_to_its_time send n t s k = absurd (two_ways false n refl)
-alone-sent all_in_order send n t s k = absurd (two_ways false n refl)
 
 -- ---- at which stamps
 

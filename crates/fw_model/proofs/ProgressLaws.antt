@@ -12,7 +12,7 @@ use Rattle.fw_flow.specs.NodeFunction.{event_node, event_stamp, numbered_message
 use Rattle.fw_flow.specs.Projection.{events_at, all_inside, count_from, sent_count, first_coordinate, phi}
 use Rattle.fw_flow.specs.WellFormed.{IsWellFormed}
 use Rattle.fw_flow.specs.Ranks.{is_looped}
-use Rattle.fw_model.proofs.KindSorts.{is_local_kind, local-from_loop}
+use Rattle.fw_model.proofs.KindSorts.{is_inner, inner-from_loop}
 use Rattle.fw_model.proofs.LesserLaws.{lesser-in_domain}
 use Rattle.fw_model.specs.History.{some_at, sent_messages, message_on, delivered_messages, pending_messages, is_delivery_to, is_notification, was_delivered_to, was_notified, is_owed_notice, is_injection, injected_count, injected_epochs, IsQuiet, IsAdmissible, IsLegal}
 use Rattle.fw_model.specs.Measure.{Measure}
@@ -46,8 +46,8 @@ arrives-below sys h w by done other df of e l t has k =
       | inr unlooped ↦ phi-monotone sys h e (other q) (done q) (λ s i. has q s (by.into_unlooped e l unlooped s t) there i) t k
       | inl looped ↦ elim (senders_well_formed sys.flow w e l) [
         | inl is ↦
-            let local = local-from_loop sys.flow (kind_of sys.flow q) (sends_to_loop sys.flow w e l looped) in
-            let none = ap is_local_kind is in
+            let inner = inner-from_loop sys.flow (kind_of sys.flow q) (sends_to_loop sys.flow w e l looped) in
+            let none = ap is_inner is in
             absurd (cc)
         | inr by_stamp ↦
             let d = phi-in_domain sys h e (other q) t k in

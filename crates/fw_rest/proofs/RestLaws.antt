@@ -19,7 +19,7 @@ use Rattle.fw_flow.specs.WellFormed.{IsWellFormed}
 use Rattle.fw_flow.specs.Ranks.{is_looped}
 use Rattle.fw_model.specs.History.{some_at, delivered_messages, pending_messages, is_owed_notice, injected_count, is_exhausted, injected_epochs, IsAdmissible, IsComplete, IsLegal}
 use Rattle.fw_model.specs.Measure.{Measure}
-use Rattle.fw_model.proofs.KindSorts.{is_local_kind, local-from_loop}
+use Rattle.fw_model.proofs.KindSorts.{is_inner, inner-from_loop}
 use Rattle.fw_model.proofs.FrontierLaws.{phi-frontier}
 use Rattle.fw_model.proofs.InputLaws.{injected-few}
 use Rattle.fw_model.proofs.LegalLaws.{edge_domains}
@@ -139,8 +139,8 @@ arrives-up sys h w by done df e l s t up d has =
       | inr unlooped ↦ phi-monotone sys h e all (done q) (λ u i. has q u (by.into_unlooped e l unlooped u t) there i) s k
       | inl looped ↦ elim (senders_well_formed sys.flow w e l) [
         | inl is ↦
-            let local = local-from_loop sys.flow (kind_of sys.flow q) (sends_to_loop sys.flow w e l looped) in
-            let none = ap is_local_kind is in
+            let inner = inner-from_loop sys.flow (kind_of sys.flow q) (sends_to_loop sys.flow w e l looped) in
+            let none = ap is_inner is in
             absurd (cc)
         | inr by_stamp ↦
             let here = phi-in_domain sys h e all s k in

@@ -5,6 +5,7 @@ mod delivery;
 mod injection;
 mod logging;
 mod notification;
+mod outgoing;
 mod sending;
 mod told;
 

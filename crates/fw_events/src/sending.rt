@@ -1,5 +1,5 @@
 //! What an event makes a node send goes to its out-edges.
-ghost use Rattle.std.specs.Prelude.{◌≡◌, ◌≢◌, ◌<◌, ◌↔◌, ◌∷◌, ◌&&◌, not, ℕ, [], true, false, length, IsTrue, IfOk, OnOk};
+ghost use Rattle.std.specs.Prelude.{◌≡◌, ◌≢◌, ◌<◌, ◌↔◌, ◌∷◌, ◌&&◌, not, ℕ, [], true, false, length, map, IsTrue, IfOk, OnOk};
 ghost use Rattle.fw_time.specs.Stamp.{in_domain};
 ghost use Rattle.fw_frontier.specs.Front.{inside};
 ghost use Rattle.fw_flow.specs.Dataflow.{bounds_of, out_edges, policy_of, receiver};
@@ -8,17 +8,18 @@ ghost use Rattle.fw_flow.specs.KeyParts.{is_of_part_if};
 ghost use Rattle.fw_model.specs.Carried.{messages_of_part};
 ghost use Rattle.fw_model.specs.Filtering.{messages_outside};
 ghost use Rattle.fw_model.specs.SortedMessages.{with_messages};
-ghost use Rattle.fw_node.specs.Answers.{caused_by};
 ghost use Rattle.fw_node.specs.NodeOf.{CanBeSent, stamps_of};
-ghost use Rattle.fw_progress.specs.Progress.{stamps_of_recs};
 ghost use Rattle.fw_node.specs.Sends.{messages_of, sends_list};
+ghost use Rattle.fw_progress.specs.SentTally.{ComeFromDomain};
 ghost use Rattle.fw_rollback.specs.Edges.{on_edge};
 ghost use Rattle.fw_running.specs.Kept.{queue_at, is_down};
 ghost use Rattle.fw_running.specs.Places.{IsPut};
 ghost use Rattle.fw_running.specs.Shaped.{IsShaped};
+ghost use Rattle.fw_events.specs.Outgoing.{outgoing_messages};
 ghost use Rattle.fw_events.specs.Sending.{with_queues, with_logs, ChangesEdges, PutsOn, LogsOn, SendsOn};
 ghost use Rattle.fw_events.specs.ToldSends.{told_list};
 
+use crate::outgoing::Outgoing;
 use crate::told::ToldSends;
 use fw_bag::Rec;
 use fw_edge::{MsgLog, Queue};
@@ -50,32 +51,31 @@ pub(crate) fn send(
     ensures shaped { OnOk result (IsShaped running.new) }
 {
     let told = ToldSends::of(running.alloc, sends)?;
-    send_each(running, node, cause, told.as_slice())?;
+    let outgoing = Outgoing {
+        cause,
+        recs: told.as_slice(),
+    };
+    send_each(running, node, &outgoing)?;
     Ok(told)
 }
 
 // What an event of a node at a stamp sends goes to one out-edge after the other.
-fn send_each(
-    running: &mut Running,
-    node: NodeId,
-    cause: &Stamp,
-    sent: &[(Stamp, Rec)],
-) -> Result<(), AllocError>
+fn send_each(running: &mut Running, node: NodeId, outgoing: &Outgoing) -> Result<(), AllocError>
     requires shaped { IsShaped running.old }
     requires there { node < length running.old.flow.nodes }
-    requires cause { in_domain (bounds_of running.old.flow node) cause.now ≡ true }
-    requires can_be_sent { CanBeSent running.old.flow node (stamps_of_recs sent.now) }
+    requires causes { ComeFromDomain (bounds_of running.old.flow node) (outgoing_messages outgoing.now) }
+    requires can_be_sent { CanBeSent running.old.flow node (map (λ (m : Message). m.at) (outgoing_messages outgoing.now)) }
     ensures others { ChangesEdges running.old running.new }
     ensures sent { OnOk result (SendsOn (out_edges running.old.flow node) (restoring.can_resend (policy_of running.old.flow node))
-        (caused_by cause.now sent.now) running.old running.new) }
+        (outgoing_messages outgoing.now) running.old running.new) }
     ensures shaped { OnOk result (IsShaped running.new) }
 {
-    if sent.is_empty() {
+    if outgoing.recs.is_empty() {
         return Ok(());
     }
     for place in 0..running.flow.out_edges(node).len() {
         let edge = running.flow.out_edges(node)[place];
-        send_on(running, node, edge, cause, sent)?;
+        send_on(running, node, edge, outgoing)?;
     }
     Ok(())
 }
@@ -85,52 +85,41 @@ fn send_on(
     running: &mut Running,
     node: NodeId,
     edge: EdgeId,
-    cause: &Stamp,
-    sent: &[(Stamp, Rec)],
+    outgoing: &Outgoing,
 ) -> Result<(), AllocError>
     requires shaped { IsShaped running.old }
     requires there { edge < length running.old.flow.edges }
     ensures others { ChangesEdges running.old running.new }
     ensures sent { OnOk result (SendsOn (edge ∷ []) (restoring.can_resend (policy_of running.old.flow node))
-        (caused_by cause.now sent.now) running.old running.new) }
+        (outgoing_messages outgoing.now) running.old running.new) }
 {
-    put_live(running, edge, cause, sent)?;
-    log_sent(running, node, edge, cause, sent)
+    put_live(running, edge, outgoing)?;
+    log_sent(running, node, edge, outgoing)
 }
 
 // What is sent is pending on an edge, if its receiver is not failed.
-fn put_live(
-    running: &mut Running,
-    edge: EdgeId,
-    cause: &Stamp,
-    sent: &[(Stamp, Rec)],
-) -> Result<(), AllocError>
+fn put_live(running: &mut Running, edge: EdgeId, outgoing: &Outgoing) -> Result<(), AllocError>
     requires there { edge < length running.old.parts.queues }
     ensures others { running.new ≡ with_queues running.new.parts.queues running.new.ready.edges running.old }
     ensures down { is_down running.old (receiver running.old.flow edge) ≡ true → running.new ≡ running.old }
     ensures live { is_down running.old (receiver running.old.flow edge) ≡ false
-        → OnOk result (PutsOn edge (caused_by cause.now sent.now) running.old running.new) }
+        → OnOk result (PutsOn edge (outgoing_messages outgoing.now) running.old running.new) }
 {
     if running.is_failed(running.flow.dst(edge)) {
         return Ok(());
     }
-    put_on(running, edge, cause, sent)
+    put_on(running, edge, outgoing)
 }
 
 // What is sent is pending on an edge.
-fn put_on(
-    running: &mut Running,
-    edge: EdgeId,
-    cause: &Stamp,
-    sent: &[(Stamp, Rec)],
-) -> Result<(), AllocError>
+fn put_on(running: &mut Running, edge: EdgeId, outgoing: &Outgoing) -> Result<(), AllocError>
     requires there { edge < length running.old.parts.queues }
     ensures others { running.new ≡ with_queues running.new.parts.queues running.new.ready.edges running.old }
-    ensures put { OnOk result (PutsOn edge (caused_by cause.now sent.now) running.old running.new) }
+    ensures put { OnOk result (PutsOn edge (outgoing_messages outgoing.now) running.old running.new) }
 {
     let none_before = nothing_pending(&running.parts.queues, edge);
     let part = running.flow.part(running.flow.dst(edge));
-    put_in(&mut running.parts.queues, edge, part, cause, sent)?;
+    put_in(&mut running.parts.queues, edge, part, outgoing)?;
     note_pending(running, edge, none_before)?;
     Ok(())
 }
@@ -163,17 +152,16 @@ fn put_in(
     queues: &mut Queues,
     edge: EdgeId,
     part: Option<KeyPart>,
-    cause: &Stamp,
-    sent: &[(Stamp, Rec)],
+    outgoing: &Outgoing,
 ) -> Result<(), AllocError>
     requires { edge < length queues.old }
     ensures each { length queues.new ≡ length queues.old }
     ensures here { OnOk result ((on_edge queues.new edge).messages
-        ≡ with_messages (messages_of_part part (caused_by cause.now sent.now)) (on_edge queues.old edge).messages) }
+        ≡ with_messages (messages_of_part part (outgoing_messages outgoing.now)) (on_edge queues.old edge).messages) }
     ensures others { (e : ℕ) → e ≢ edge → on_edge queues.new e ≡ on_edge queues.old e }
 {
     match queues.get_mut(edge) {
-        Some(queue) => put_each(queue, part, cause, sent),
+        Some(queue) => put_each(queue, part, outgoing),
         None => Ok(()),
     }
 }
@@ -183,38 +171,32 @@ fn log_sent(
     running: &mut Running,
     node: NodeId,
     edge: EdgeId,
-    cause: &Stamp,
-    sent: &[(Stamp, Rec)],
+    outgoing: &Outgoing,
 ) -> Result<(), AllocError>
     requires there { edge < length running.old.parts.logs }
     requires low { receiver running.old.flow edge < length running.old.parts.low }
     ensures others { running.new ≡ with_logs running.new.parts.logs running.old }
     ensures again { restoring.can_resend (policy_of running.old.flow node) ≡ true
-        → OnOk result (LogsOn edge (caused_by cause.now sent.now) running.old running.new) }
+        → OnOk result (LogsOn edge (outgoing_messages outgoing.now) running.old running.new) }
     ensures never { restoring.can_resend (policy_of running.old.flow node) ≡ false → running.new ≡ running.old }
 {
     if !running.flow.policy(node).can_resend() {
         return Ok(());
     }
-    log_on(running, edge, cause, sent)
+    log_on(running, edge, outgoing)
 }
 
 // What is sent outside the receiver's low watermark is in the log of an edge.
-fn log_on(
-    running: &mut Running,
-    edge: EdgeId,
-    cause: &Stamp,
-    sent: &[(Stamp, Rec)],
-) -> Result<(), AllocError>
+fn log_on(running: &mut Running, edge: EdgeId, outgoing: &Outgoing) -> Result<(), AllocError>
     requires there { edge < length running.old.parts.logs }
     requires low { receiver running.old.flow edge < length running.old.parts.low }
     ensures others { running.new ≡ with_logs running.new.parts.logs running.old }
-    ensures logged { OnOk result (LogsOn edge (caused_by cause.now sent.now) running.old running.new) }
+    ensures logged { OnOk result (LogsOn edge (outgoing_messages outgoing.now) running.old running.new) }
 {
     let receiver = running.flow.dst(edge);
     let part = running.flow.part(receiver);
     let low = &running.parts.low.as_slice()[receiver.place() as usize];
-    log_in(&mut running.parts.logs, edge, part, low, cause, sent)
+    log_in(&mut running.parts.logs, edge, part, low, outgoing)
 }
 
 // Of what is sent that whose key is of the part, and which lies outside a frontier, is in the log of an edge.
@@ -223,36 +205,30 @@ fn log_in(
     edge: EdgeId,
     part: Option<KeyPart>,
     low: &Front,
-    cause: &Stamp,
-    sent: &[(Stamp, Rec)],
+    outgoing: &Outgoing,
 ) -> Result<(), AllocError>
     requires { edge < length logs.old }
     ensures each { length logs.new ≡ length logs.old }
     ensures here { OnOk result ((on_edge logs.new edge).messages
-        ≡ with_messages (messages_outside (inside low.now) (messages_of_part part (caused_by cause.now sent.now)))
+        ≡ with_messages (messages_outside (inside low.now) (messages_of_part part (outgoing_messages outgoing.now)))
         (on_edge logs.old edge).messages) }
     ensures others { (e : ℕ) → e ≢ edge → on_edge logs.new e ≡ on_edge logs.old e }
 {
     match logs.get_mut(edge) {
-        Some(log) => log_each(log, part, low, cause, sent),
+        Some(log) => log_each(log, part, low, outgoing),
         None => Ok(()),
     }
 }
 
 /// Of what is sent that whose key is of the part is pending. The error is want of memory.
-fn put_each(
-    queue: &mut Queue,
-    part: Option<KeyPart>,
-    cause: &Stamp,
-    sent: &[(Stamp, Rec)],
-) -> Result<(), AllocError>
-    ensures { OnOk result (queue.new.messages ≡ with_messages (messages_of_part part (caused_by cause.now sent.now)) queue.old.messages) }
+fn put_each(queue: &mut Queue, part: Option<KeyPart>, outgoing: &Outgoing) -> Result<(), AllocError>
+    ensures { OnOk result (queue.new.messages ≡ with_messages (messages_of_part part (outgoing_messages outgoing.now)) queue.old.messages) }
 {
     // This call tells that the messages of the queue are in order.
     let _none = queue.is_empty();
-    for one in sent {
+    for one in outgoing.recs {
         if is_of_part(part, one.1.key) {
-            queue.put(caused(&one.0, one.1, cause))?;
+            queue.put(caused(&one.0, one.1, outgoing.cause))?;
         }
     }
     Ok(())
@@ -282,17 +258,16 @@ fn log_each(
     log: &mut MsgLog,
     part: Option<KeyPart>,
     low: &Front,
-    cause: &Stamp,
-    sent: &[(Stamp, Rec)],
+    outgoing: &Outgoing,
 ) -> Result<(), AllocError>
     ensures { OnOk result (log.new.messages
-        ≡ with_messages (messages_outside (inside low.now) (messages_of_part part (caused_by cause.now sent.now))) log.old.messages) }
+        ≡ with_messages (messages_outside (inside low.now) (messages_of_part part (outgoing_messages outgoing.now))) log.old.messages) }
 {
     // This call tells that the messages of the log are in order.
     let _none = log.is_empty();
-    for one in sent {
+    for one in outgoing.recs {
         if is_logged(part, low, &one.0, one.1) {
-            log.append(caused(&one.0, one.1, cause))?;
+            log.append(caused(&one.0, one.1, outgoing.cause))?;
         }
     }
     Ok(())

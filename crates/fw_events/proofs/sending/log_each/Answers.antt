@@ -7,7 +7,7 @@ use Rattle.fw_model.specs.Carried.{messages_of_part}
 use Rattle.fw_model.specs.Filtering.{messages_outside}
 use Rattle.fw_model.specs.SortedMessages.{with_message, with_messages}
 use Rattle.fw_edge.specs.Messages.{MessagesState}
-use Rattle.fw_node.specs.Answers.{caused_by}
+use Rattle.fw_events.specs.Outgoing.{outgoing_messages}
 use Rattle.fw_events.proofs.SendingLaws.{message-there}
 use Rattle.fw_stands.proofs.EventPutLaws.{kept-step, kept-skip, outside-part}
 use Rattle.fw_events.proofs.sending.log_each.Goals.{then-is_logged+in_ok-append, else-is_logged}
@@ -16,12 +16,12 @@ use Rattle.fw_events.proofs.sending.log_each.Goals as goal
 pub loop-one-preserved : goal.loop-one-preserved
 loop-one-preserved c =
     let kept : Message → Bool = λ m. is_of_part_if c.args.part m.rec.key && not (inside c.args.low.now m.at) in
-    let sent = c.args.sent.now in
-    let ms = caused_by c.args.cause.now sent in
+    let out = c.args.outgoing.now in
+    let ms = outgoing_messages out in
     let i = c.loop-one.one-index in
     let x = c.one-item.result in
-    let m : Message = record { at = x.0; rec = x.1; causes = c.args.cause.now ∷ [] } in
-    let at : Some m ≡ slice_get ms i = message-there c.args.cause.now sent i x c.loop-one-test.true c.one-item.is in
+    let m : Message = record { at = x.0; rec = x.1; causes = out.cause.now ∷ [] } in
+    let at : Some m ≡ slice_get ms i = message-there out.cause.now out.recs.now i x c.loop-one-test.true c.one-item.is in
     let now = c.loop-one.log.messages in
     let new = c.if-is_logged.log.messages in
     let old = c.args.log.now.messages in

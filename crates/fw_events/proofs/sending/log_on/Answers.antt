@@ -5,8 +5,8 @@ use Rattle.fw_flow.specs.Dataflow.{receiver}
 use Rattle.fw_model.specs.Carried.{carried}
 use Rattle.fw_model.specs.Filtering.{messages_outside}
 use Rattle.fw_model.specs.SortedMessages.{with_messages}
-use Rattle.fw_node.specs.Answers.{caused_by}
 use Rattle.fw_running.specs.Kept.{log_at}
+use Rattle.fw_events.specs.Outgoing.{outgoing_messages}
 use Rattle.fw_events.specs.Sending.{with_logs}
 use Rattle.fw_events.proofs.SendLaws.{low-read}
 use Rattle.fw_events.proofs.SendingLaws.{logs-on, part-carries}
@@ -15,7 +15,7 @@ use Rattle.fw_events.proofs.sending.log_on.Goals as goal
 pub returns-clause-logged : goal.returns-clause-logged
 returns-clause-logged c =
     let old = c.args.running.now in
-    let ms = caused_by c.args.cause.now c.args.sent.now in
+    let ms = outgoing_messages c.args.outgoing.now in
     let low = low-read old.parts.low c.as_slice.result.now c.place.result c.dst-receiver.result (receiver old.flow c.args.edge) c.index-as_slice-place.result
     c.as_slice.ensures c.place.ensures c.dst-receiver.ensures c.index-as_slice-place.is c.requires.low in
     on_ok_weaker c.log_in.result (λ here.

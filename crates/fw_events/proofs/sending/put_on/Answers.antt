@@ -1,7 +1,7 @@
 use Rattle.std.proofs.Common.{ap, ◌∙◌}
 use Rattle.fw_model.specs.SortedMessages.{with_messages}
-use Rattle.fw_node.specs.Answers.{caused_by}
 use Rattle.fw_running.specs.Kept.{queue_at}
+use Rattle.fw_events.specs.Outgoing.{outgoing_messages}
 use Rattle.fw_events.proofs.SendingLaws.{part-carries, puts-noted, queues-kept}
 use Rattle.fw_events.proofs.sending.put_on.Goals as goal
 
@@ -12,7 +12,7 @@ pub returns-clause-put : goal.returns-clause-put
 returns-clause-put c =
     let old = c.args.running.now in
     let e = c.args.edge in
-    let ms = caused_by c.args.cause.now c.args.sent.now in
+    let ms = outgoing_messages c.args.outgoing.now in
     puts-noted old c.note_pending.new.running e ms c.put_in.new.queues c.nothing_pending-none_before.result
     c.note_pending.ensures.others c.put_in.ensures.each
     (c.in_ok-put_in.ensures.here ∙ ap (λ xs. with_messages xs (queue_at old e)) (part-carries old.flow e c.dst.result c.part-part.result ms c.part-part.ensures c.dst.ensures))

@@ -13,6 +13,7 @@ use Rattle.fw_flow.specs.Dataflow.{System, Dataflow, in_edges, kind_of, receiver
 use Rattle.fw_flow.specs.NodeFunction.{sends}
 use Rattle.fw_flow.specs.Projection.{events_at}
 use Rattle.fw_model.specs.Machine.{events}
+use Rattle.fw_model.specs.SortedMessages.{sorted_messages}
 use Rattle.fw_model.specs.Told.{is_told, IsSumOfTold}
 use Rattle.fw_node.specs.Answers.{caused_by}
 use Rattle.fw_node.specs.Arrived.{IsOneOf}
@@ -22,7 +23,7 @@ use Rattle.fw_node.specs.TableOf.{IsTableOf}
 use Rattle.fw_rollback.specs.Tables.{table_at}
 use Rattle.fw_stands.specs.Events.{AreSent}
 use Rattle.fw_stands.specs.Parts.{table_base}
-use Rattle.fw_stands.proofs.EventAnswerLaws.{events-send, notices-send}
+use Rattle.fw_stands.proofs.EventAnswerLaws.{notices-send}
 use Rattle.fw_stands.proofs.EventTableLaws.{deliveries-can_be_taken_in, notices-can_be_taken, tables-take_in}
 use Rattle.fw_events.specs.Taking.{TableTakes}
 
@@ -75,7 +76,7 @@ pub delivery-taken : (flow : Dataflow) (d : ℕ) (m : Message) (sent : List Mess
     → IsTableOf f p settled old before → IsTableOf f p settled new (Deliver d x ∷ before))
     → ((sys : System) (p : ℕ) (settled : Stamp → Bool) (before : List Event) (x : Message) → x.at ≡ at → x.rec ≡ rec
     → IsOneOf (in_edges sys.flow p) d → settled at ≡ false → IsTableOf sys.flow p settled old before
-    → sent ≡ sends sys p before (Deliver d x))
+    → sorted_messages sent ≡ sorted_messages (sends sys p before (Deliver d x)))
     → m.at ≡ at → m.rec ≡ rec → TableTakes flow (Deliver d m) sent (Some old) (Some new)
 delivery-taken flow d m sent old new at rec ok answers at_is rec_is = λ sys state is w r enabled table.
     let p = receiver sys.flow d in
@@ -85,7 +86,7 @@ delivery-taken flow d m sent old new at rec ok answers at_is rec_is = λ sys sta
     let before = events_at sys.flow p h in
     let unsettled : settled at ≡ false = ap settled (sym at_is) ∙ can.unsettled in
     let untold : is_notified_kind (kind_of sys.flow p) ≡ true → is_told before at ≡ false = λ k. ap (is_told before) (sym at_is) ∙ can.untold k in (
-      subst (AreSent sys h (Deliver d m)) (sym (answers sys p settled before m at_is rec_is can.on_edge unsettled table.of_events)) (events-send sys h (Deliver d m)),
+      answers sys p settled before m at_is rec_is can.on_edge unsettled table.of_events,
       tables-take_in sys state (Deliver d m) p refl (sym table.there) new (ok sys.flow p settled before m at_is rec_is can.on_edge unsettled untold table.of_events),
     )
 

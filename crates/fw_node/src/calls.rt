@@ -11,6 +11,7 @@ ghost use Rattle.fw_flow.specs.NodeFunction.{delivered_recs, sends};
 ghost use Rattle.fw_flow.specs.WellFormed.{IsWellFormed};
 ghost use Rattle.fw_model.specs.Filtering.{events_inside};
 ghost use Rattle.fw_model.specs.Order.{notified_stamps};
+ghost use Rattle.fw_model.specs.SortedMessages.{sorted_messages};
 ghost use Rattle.fw_model.specs.Told.{is_told, AreToldInside, EachDelivery, IsSumOfTold};
 ghost use Rattle.fw_frontier.specs.Frontier.{Within};
 ghost use Rattle.fw_node.specs.Answers.{caused_by};
@@ -102,7 +103,8 @@ impl Node {
         &self.bounds
     }
 
-    /// Takes in a rec that came on an in-edge at a stamp of the domain, and gives what it makes the node send.
+    /// Takes in a rec that came on an in-edge at a stamp of the domain, and gives what it makes the node send, in
+    /// the node function's order.
     ///
     /// It fails where memory is refused, now or earlier.
     #[tactic(auto, using(crate::proofs::NodeLaws::same_length))]
@@ -114,6 +116,10 @@ impl Node {
             → IsTableOf flow p settled self.old before
             → OnOk result (IsTableOf flow p settled self.new (Deliver edge m ∷ before)) }
         ensures sent { (sys : System) (p : ℕ) (settled : List ℕ → Bool) (before : List Event) (m : Message)
+            → m.at ≡ at.now → m.rec ≡ rec → IsOneOf (in_edges sys.flow p) edge → settled at.now ≡ false
+            → IsTableOf sys.flow p settled self.old before
+            → IfOk result (λ sent. sorted_messages (messages_of at.now sent) ≡ sorted_messages (sends sys p before (Deliver edge m))) }
+        ensures in_order { (sys : System) (p : ℕ) (settled : List ℕ → Bool) (before : List Event) (m : Message)
             → m.at ≡ at.now → m.rec ≡ rec → IsOneOf (in_edges sys.flow p) edge → settled at.now ≡ false
             → IsTableOf sys.flow p settled self.old before
             → IfOk result (λ sent. messages_of at.now sent ≡ sends sys p before (Deliver edge m)) }

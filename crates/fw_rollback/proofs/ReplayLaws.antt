@@ -107,15 +107,20 @@ of_notice G flow p before at (Notify q t) l can f =
 
 -- ---- what is logged of an event
 
+-- what is sent is logged as it is, in whatever order
+pub sent-logged : (flow : Dataflow) (low : List Front) (e : ℕ) (sent all ms : List Message) → sorted_messages sent ≡ sorted_messages all
+    → log_of flow low e (carried flow e sent ++ ms) ≡ log_of flow low e (carried flow e all ++ ms)
+sent-logged flow low e sent all ms same =
+    log_of-same flow low e (carried flow e sent ++ ms) (carried flow e all ++ ms)
+    (sorted_messages-before (carried flow e sent) (carried flow e all) ms
+    (sorted_messages-carried flow e sent ∙ ap (carried flow e) same ∙ sym (sorted_messages-carried flow e all)))
+
 -- what a notification is said to send is logged as what it sends
 pub notice-logged : (sys : System) (low : List Front) (e p : ℕ) (before : List Event) (at : Stamp) (sent ms : List Message)
     → sent ≡ caused_by at (notice_sends (kind_of sys.flow p) before at)
     → log_of sys.flow low e (carried sys.flow e sent ++ ms) ≡ log_of sys.flow low e (carried sys.flow e (sends sys p before (Notify p at)) ++ ms)
 notice-logged sys low e p before at sent ms is =
-    let all = sends sys p before (Notify p at) in
-    log_of-same sys.flow low e (carried sys.flow e sent ++ ms) (carried sys.flow e all ++ ms)
-    (sorted_messages-before (carried sys.flow e sent) (carried sys.flow e all) ms
-    (sorted_messages-carried sys.flow e sent ∙ ap (carried sys.flow e) (ap sorted_messages is ∙ sym (notices_are_sends sys p before at)) ∙ sym (sorted_messages-carried sys.flow e all)))
+    sent-logged sys.flow low e sent (sends sys p before (Notify p at)) ms (ap sorted_messages is ∙ sym (notices_are_sends sys p before at))
 
 -- ---- one event more
 

@@ -22,10 +22,6 @@ use Rattle.fw_stands.specs.Events.{sends_at, AreSent, at_epoch, put_on}
 
 -- ---- what is sent
 
--- what the node function gives is sent
-pub events-send : (sys : System) (h : List Event) (v : Event) → AreSent sys h v (sends_at sys h v)
-events-send sys h v = refl
-
 -- what an event sends on an edge is what comes to it
 pub sent_on-put_on : (sys : System) (h : List Event) (v : Event) (e : ℕ) → sent_on sys h e v ≡ put_on sys.flow e v (sends_at sys h v)
 sent_on-put_on sys h v e =

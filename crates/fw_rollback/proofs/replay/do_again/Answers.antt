@@ -1,8 +1,8 @@
-use Rattle.std.proofs.Common.{◌≡◌, ◌++◌, ◌∷◌, [], true, false, List, refl, ap, subst, ◌∙◌}
+use Rattle.std.proofs.Common.{◌≡◌, ◌++◌, ◌∷◌, [], true, false, refl, ap, subst, ◌∙◌}
 use Rattle.fw_lemmas.proofs.Results.{on_ok}
 use Rattle.fw_time.specs.Stamp.{in_domain}
 use Rattle.fw_flow.specs.declared.event.Event.{Event}
-use Rattle.fw_flow.specs.declared.event.Message.{Message}
+use Rattle.fw_flow.specs.declared.event.Event.TheVariants.{Deliver}
 use Rattle.fw_flow.specs.Dataflow.{System}
 use Rattle.fw_flow.specs.NodeFunction.{sends}
 use Rattle.fw_model.specs.Carried.{carried}
@@ -12,7 +12,7 @@ use Rattle.fw_node.specs.Sends.{messages_of}
 use Rattle.fw_node.specs.TableOf.{IsTableOf}
 use Rattle.fw_node.proofs.NodeOfLaws.{of_node}
 use Rattle.fw_rollback.specs.Restored.{log_of, StandsForRedone}
-use Rattle.fw_rollback.proofs.ReplayLaws.{of_delivery, of_notice, notice-logged, stands-more, have_sent-more}
+use Rattle.fw_rollback.proofs.ReplayLaws.{of_delivery, of_notice, notice-logged, sent-logged, stands-more, have_sent-more}
 use Rattle.fw_rollback.proofs.OwnLaws.{own-more}
 use Rattle.fw_rollback.proofs.replay.do_again.Goals as goal
 
@@ -35,10 +35,10 @@ returns-in_ok-sends-in-Deliver-clause-logs c = λ logged st sent.
     have_sent-more flow c.args.low.now p logged c.args.event.now c.args.table.now c.args.logs.now c.log_sends.new.logs c.log_sends.result (messages_of at c.in_ok-sends-in-Deliver.sends) st sent
     (λ batches before v is can t e ms.
     let sys : System = record { flow = flow; batches = batches } in
-    let P : Event → Type 0 = λ x. messages_of at c.in_ok-sends-in-Deliver.sends ≡ sends sys p before x in
-    let same : P v = of_delivery P flow p before c.in-Deliver.edge at c.in-Deliver.rec v (is ∙ ap (λ (x : LoggedEvent). x ∷ []) c.in-Deliver.is) can
-    (λ m stamp rec one told. c.in_ok-sends-in-Deliver.ensures.sent sys p (λ x. false) before m stamp rec one refl t) in
-    ap (λ (xs : List Message). log_of flow c.args.low.now e (carried flow e xs ++ ms)) same)
+    let P : Event → Type 0 = λ x. log_of flow c.args.low.now e (carried flow e (messages_of at c.in_ok-sends-in-Deliver.sends) ++ ms) ≡ log_of flow c.args.low.now e (carried flow e (sends sys p before x) ++ ms) in
+    of_delivery P flow p before c.in-Deliver.edge at c.in-Deliver.rec v (is ∙ ap (λ (x : LoggedEvent). x ∷ []) c.in-Deliver.is) can
+    (λ m stamp rec one told. sent-logged flow c.args.low.now e (messages_of at c.in_ok-sends-in-Deliver.sends) (sends sys p before (Deliver c.in-Deliver.edge m)) ms
+    (c.in_ok-sends-in-Deliver.ensures.sent sys p (λ x. false) before m stamp rec one refl t)))
     c.log_sends.ensures.logged
 
 pub returns-in_ok-sends-in-Notify-clause-table : goal.returns-in_ok-sends-in-Notify-clause-table

@@ -5,6 +5,7 @@ use Rattle.fw_flow.specs.Dataflow.{kind_of, in_edges, send_stamp_of_kind}
 use Rattle.fw_table.specs.Sent.{sent_if_at}
 use Rattle.fw_flow.specs.declared.event.Event.TheVariants.{Deliver}
 use Rattle.fw_flow.specs.NodeFunction.{sends}
+use Rattle.fw_model.specs.SortedMessages.{sorted_messages}
 use Rattle.fw_node.specs.Answers.{caused_by, recs_for, without_causes}
 use Rattle.fw_node.specs.Arrived.{arrived, place_in}
 use Rattle.fw_node.specs.Past.{past_of}
@@ -15,8 +16,8 @@ use Rattle.fw_node.specs.declared.sends.Sends.TheVariants.{AtOneStamp}
 use Rattle.fw_node.proofs.NodeOfLaws.{can-send, of_node}
 use Rattle.fw_node.proofs.node.Node.deliver.Goals as goal
 
-pub returns-in-Ok-clause-sent : goal.returns-in-Ok-clause-sent
-returns-in-Ok-clause-sent c = λ sys p settled before m at_is rec_is edge out node.
+pub returns-in-Ok-clause-in_order : goal.returns-in-Ok-clause-in_order
+returns-in-Ok-clause-in_order c = λ sys p settled before m at_is rec_is edge out node.
     let ins : List ℕ = in_edges sys.flow p in
     let k : Kind = kind_of sys.flow p in
     let came : List Arrival = arrived ins before in
@@ -31,6 +32,10 @@ returns-in-Ok-clause-sent c = λ sys p settled before m at_is rec_is edge out no
     ∙ sym (delivery_sends sys p before c.args.edge m edge node.on_edges) in
     ap (caused_by c.args.at.now) recs ∙ ap (λ t. caused_by t (without_causes (sends sys p before (Deliver c.args.edge m)))) (sym at_is)
     ∙ sends-cause sys p before (Deliver c.args.edge m)
+
+pub returns-in-Ok-clause-sent : goal.returns-in-Ok-clause-sent
+returns-in-Ok-clause-sent c = λ sys p settled before m at_is rec_is edge out node.
+    ap sorted_messages (returns-in-Ok-clause-in_order c sys p settled before m at_is rec_is edge out node)
 
 pub returns-in-Ok-clause-domain : goal.returns-in-Ok-clause-domain
 returns-in-Ok-clause-domain c = λ flow p w n.

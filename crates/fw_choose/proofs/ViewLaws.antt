@@ -20,6 +20,7 @@ use Rattle.fw_flow.specs.declared.kind.Policy.TheVariants as policy
 use Rattle.fw_flow.specs.Dataflow.{System, Dataflow, kind_of, sender, receiver, bounds_of, is_input_kind, is_output_kind, is_sequence_kind, greatest_number, HasEpochs, policy_of}
 use Rattle.fw_flow.specs.NodeFunction.{event_node, event_stamp}
 use Rattle.fw_flow.specs.Projection.{IsSentTable}
+use Rattle.fw_model.specs.Sending.{is_single_kind}
 use Rattle.fw_model.specs.Certificates.{IsTrailBy}
 use Rattle.fw_model.specs.Choice.{kept, IsCandidate, IsConsistentBy, IsLargestBy, IsLargest}
 use Rattle.fw_model.specs.Choosing.{CanChoose, choice_at}
@@ -315,7 +316,7 @@ stamps-stay whole sys h p base raw s = record {
     single : Bool
     single = is_input_kind (kind_of flow p)
 
-    by : (b : Bool) → single ≡ b → (e : ℕ) → e < length sys.flow.edges → sender sys.flow e ≡ p → is_sequence_kind (kind_of sys.flow p) ≡ false
+    by : (b : Bool) → single ≡ b → (e : ℕ) → e < length sys.flow.edges → sender sys.flow e ≡ p → is_single_kind (kind_of sys.flow p) ≡ true
         → counted_on_edge e (filter (is_on_its_edge flow single) raw.sent) ≡ counted_on_edge e raw.sent
     by false i e l k n = ap (λ b. counted_on_edge e (filter (is_on_its_edge flow b) raw.sent)) i ∙ ap (λ ms. counted_on_edge e ms) (all-on_edges flow raw.sent s.on_edges.1)
     by true i e l k n =

@@ -12,7 +12,7 @@ use Rattle.fw_examples.specs.RunningTotal.{total_node, total_flow, totals, two_e
 others : OtherRecsAreSent
 unfolding in_edges kind_of receiver bounds_of
 others = record {
-  no_sequence = refl;
+  single = refl;
   on_its_edge = refl;
   came = (refl, tt);
   again = λ law. law each_once 1 once_came 0 (record { at = at 0; rec = pair 1 5; causes = at 0 ∷ [] }) refl refl (refl, tt);

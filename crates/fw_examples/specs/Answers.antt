@@ -1,5 +1,6 @@
 -- What the laws of answers say of a distinct, of the running total and of a sum, where they have something to say.
-use Rattle.std.specs.Prelude.{List, None, [], Bool, codes, false, length, ◌<◌, ◌∷◌, ◌≡◌}
+use Rattle.std.specs.Prelude.{List, None, [], Bool, codes, true, false, length, ◌<◌, ◌∷◌, ◌≡◌}
+use Rattle.fw_model.specs.Sending.{is_single_kind}
 use Rattle.fw_bag.specs.Arrivals.{Arrival, arrival, arrivals_inside}
 use Rattle.fw_time.specs.Stamp.{Stamp, same}
 use Rattle.fw_flow.specs.Dataflow.{System, in_edges, is_sequence_kind, kind_of}
@@ -26,7 +27,7 @@ once_came = delivery_at 0 0 (pair 1 5) ∷ []
 
 -- The rec that came once is not sent when it comes again at its epoch, and another one is.
 pub record OtherRecsAreSent : Type 0 where
-  pub no_sequence : is_sequence_kind (kind_of each_once.flow 1) ≡ false
+  pub single : is_single_kind (kind_of each_once.flow 1) ≡ true
   pub on_its_edge : IsOneOf (in_edges each_once.flow 1) 0
   pub came : AreOnEdges (in_edges each_once.flow 1) once_came
   pub again : DeliveriesAnswer → without_causes (sends each_once 1 once_came (delivery_at 0 0 (pair 1 5))) ≡ []

@@ -14,7 +14,7 @@ use Rattle.fw_flow.specs.NodeFunction.{event_stamp, sequence_sent, sends_of_kind
 use Rattle.fw_flow.specs.Projection.{events_at, all_inside, phi}
 use Rattle.fw_model.specs.LawsOfSending.{InsidePhiComesFromInside, IsFromCauses, SendsAtMost, SendsComeFromCauses}
 use Rattle.fw_model.specs.Sending.{IsSentFrom, recs_by_count_on}
-use Rattle.fw_model.proofs.KindSorts.{by_stamp-no_sequence, sends_by}
+use Rattle.fw_model.proofs.KindSorts.{by_stamp-no_sequence, no_sequence-single, sends_by}
 use Rattle.fw_model.proofs.CarriedLaws.{carried-each}
 use Rattle.fw_model.proofs.SendingLaws.{phi-by_stamp, phi-in_domain}
 use Rattle.fw_model.proofs.SendsLaws.{IsAt, sends_of_kind-each, sends-each}
@@ -108,7 +108,7 @@ sends-from_causes sys p n before v =
       some = one-some (event_stamp v) m a.1;
       each = one-each (SendsAtMost sys.flow p m.at) (event_stamp v) m (m.at, a.0, leq-refl m.at) a.1;
     } in from)
-    (sends-each sys p n before v)
+    (sends-each sys p (no_sequence-single (kind_of sys.flow p) n) before v)
 
 -- each cause of the message sends at its stamp or below
 CausesSend : Dataflow → ℕ → Message → Type 0

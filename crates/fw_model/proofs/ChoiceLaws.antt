@@ -34,7 +34,7 @@ use Rattle.fw_flow.specs.declared.restoring.Restoring.{Restoring}
 use Rattle.fw_flow.specs.declared.restoring.Restoring.TheVariants.{Batches, Bound, Anything, Checkpoints, Events}
 use Rattle.fw_flow.specs.Restoring.{restoring_of_policy, restoring, can_resend, way_of}
 use Rattle.fw_model.specs.Covers.{stamp_of_notice, set_of, takes_its_cut, takes_its_notices, discarded_at, covers_in, tallies_in}
-use Rattle.fw_model.proofs.KindSorts.{is_sequence}
+use Rattle.fw_model.proofs.KindSorts.{is_sequence, no_sequence-single}
 use Rattle.fw_model.proofs.CarriedLaws.{carried-each}
 use Rattle.fw_model.proofs.PhiLaws.{phi-monotone, all_inside-monotone}
 use Rattle.fw_model.proofs.PsiLaws.{psi-monotone, psi-join}
@@ -208,7 +208,7 @@ sent-divides sys state e h f g ff fg w =
             | inl j ↦ inl (ap (all_inside f) c.2 ∙ and_from (f c.0) true j refl)
             | inr j ↦ inr (ap (all_inside g) c.2 ∙ and_from (g c.0) true j refl)
           ])
-          (carried-each sys.flow e (IsOfCause sys.flow p) (sent_by sys p vs) (sent_by-of_cause sys p n vs))
+          (carried-each sys.flow e (IsOfCause sys.flow p) (sent_by sys p vs) (sent_by-of_cause sys p (no_sequence-single (kind_of sys.flow p) n) vs))
       | inl s ↦
           let bounds = bounds-sequence sys.flow p (is_sequence (kind_of sys.flow p) s) in
           elim (one_within greatest_number f g (subst (λ b. IsFrontier b f) bounds ff) (subst (λ b. IsFrontier b g) bounds fg)) [

@@ -13,11 +13,11 @@ use Rattle.fw_flow.specs.declared.event.Event.{Event}
 use Rattle.fw_flow.specs.declared.event.Event.TheVariants.{Inject, Deliver, Notify}
 use Rattle.fw_flow.specs.declared.event.Message.{Message}
 use Rattle.fw_flow.specs.declared.kind.Kind.TheVariants.{OutputEpoch}
-use Rattle.fw_flow.specs.Dataflow.{System, Dataflow, idle_node, kind_of, sender, receiver, greatest_number, bounds_of, is_input_kind, is_notified_kind, batches_of, send_stamp, send_stamp_of_kind, is_sequence_kind, HasEpochs}
+use Rattle.fw_flow.specs.Dataflow.{System, Dataflow, idle_node, kind_of, sender, receiver, greatest_number, bounds_of, is_input_kind, is_notified_kind, batches_of, send_stamp, send_stamp_of_kind, HasEpochs}
 use Rattle.fw_flow.specs.NodeFunction.{event_node, event_stamp, numbered_messages, sequence_sent, sends_of_kind, sends}
 use Rattle.fw_flow.specs.Projection.{events_at, count_from, first_coordinate, phi, IsSenderFrontier}
 use Rattle.fw_flow.specs.WellFormed.{IsWellFormed}
-use Rattle.fw_model.proofs.KindSorts.{by_stamp-no_sequence}
+use Rattle.fw_model.proofs.KindSorts.{by_stamp-single}
 use Rattle.fw_model.proofs.LesserLaws.{lesser-in_domain, lesser-on_edge}
 use Rattle.fw_model.specs.Carried.{carried}
 use Rattle.fw_model.specs.LawsOfPending.{sent_on}
@@ -33,7 +33,7 @@ use Rattle.fw_model.proofs.WellFormedLaws.{senders_well_formed}
 use Rattle.fw_model.proofs.LegalLaws.{enabled-in_domain, legal-in_domain, only_inputs_inject}
 use Rattle.fw_model.proofs.CarriedLaws.{carried-each, sent-more}
 use Rattle.fw_model.proofs.PendingLaws.{quiet-new, quiet-without, is_among-some_at}
-use Rattle.fw_model.specs.Sending.{SendsByStamp, SendsByCount, recs_by_count_on}
+use Rattle.fw_model.specs.Sending.{is_single_kind, SendsByStamp, SendsByCount, recs_by_count_on}
 
 -- ---- an enabled event is outside
 
@@ -82,7 +82,7 @@ by_stamp-outside sys h e f v p fr d o =
     (λ m a k.
     let all = (phi-by_stamp sys h e f p fr m.at (phi-in_domain sys h e f m.at k)).0 k in
     two_ways (f (event_stamp v)) (all (event_stamp v) m.at d a.0 (leq-refl m.at)) o)
-    (sends-each sys q (by_stamp-no_sequence sys.flow (kind_of sys.flow q) p) (events_at sys.flow q h) v)
+    (sends-each sys q (by_stamp-single sys.flow (kind_of sys.flow q) p) (events_at sys.flow q h) v)
 
 idle-outside : (sys : System) (h : List Event) (e : ℕ) (f : Frontier) (v : Event) → kind_of sys.flow (sender sys.flow e) ≡ OutputEpoch
     → AreOutsidePhi sys h e f (sends sys (sender sys.flow e) (events_at sys.flow (sender sys.flow e) h) v)
@@ -90,7 +90,7 @@ idle-outside sys h e f v is =
     let q = sender sys.flow e in
     each-weaker (IsAt (send_stamp sys.flow q (event_stamp v)) (event_stamp v)) (λ m. phi sys h e f m.at ≡ true → ⊥) (sends sys q (events_at sys.flow q h) v)
     (λ m a k. let r : None ≡ Some m.at = sym (ap (λ kind. send_stamp_of_kind sys.flow kind (event_stamp v)) is) ∙ a.0 in cc r)
-    (sends-each sys q (ap is_sequence_kind is) (events_at sys.flow q h) v)
+    (sends-each sys q (ap is_single_kind is) (events_at sys.flow q h) v)
 
 sequence-outside : (sys : System) (h : List Event) (e : ℕ) (f : Frontier) (v : Event) → SendsByCount (kind_of sys.flow (sender sys.flow e))
     → IsSenderFrontier sys.flow e f → in_domain (bounds_of sys.flow (sender sys.flow e)) (event_stamp v) ≡ true → f (event_stamp v) ≡ false

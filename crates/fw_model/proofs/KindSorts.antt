@@ -1,5 +1,5 @@
 -- The sorts of kinds that the laws tell apart: the tests by kind, and what a kind of a sort is.
-use Rattle.std.proofs.Common.{◌≡◌, ℕ, Bool, true, false, List, [], ◌∷◌, Some, refl, sym, ◌∙◌, inl, inr, ◌⊎◌, Option, None}
+use Rattle.std.proofs.Common.{◌≡◌, ℕ, Bool, true, false, List, [], ◌∷◌, Some, refl, sym, ap, not, ◌∙◌, inl, inr, ◌⊎◌, Option, None}
 use Rattle.std.proofs.lemmas.Bool.{true≢false}
 use Rattle.fw_lemmas.proofs.Bools.{two_ways}
 use Rattle.fw_time.specs.Stamp.{Stamp}
@@ -18,7 +18,7 @@ use Rattle.fw_flow.specs.declared.kind.Policy.{Policy}
 use Rattle.fw_flow.specs.declared.restoring.Restoring.TheVariants.{Anything}
 use Rattle.fw_flow.specs.declared.kind.Policy.TheVariants as policy
 use Rattle.fw_flow.proofs.Chains.{parent-no_number}
-use Rattle.fw_model.specs.Sending.{SendsByCount, SendsByStamp}
+use Rattle.fw_model.specs.Sending.{SendsByCount, SendsByStamp, is_single_kind}
 
 -- ---- sorts
 
@@ -108,13 +108,21 @@ pub is_sequence : (kind : Kind) → is_sequence_kind kind ≡ true → SendsByCo
 is_sequence Sequence e = refl
 is_sequence kind e = absurd (cc)
 
--- a kind sends by count, or it is no sequence
-pub sends_by : (kind : Kind) → SendsByCount kind ⊎ (is_sequence_kind kind ≡ false)
+-- a kind sends by count, or it is a single one
+pub sends_by : (kind : Kind) → SendsByCount kind ⊎ (is_single_kind kind ≡ true)
 sends_by Sequence = inl refl
 sends_by kind = inr refl
 
--- what a node of a kind that does not send by count sends at an event, it sends at the send stamp
-pub at_send_stamp : (sys : System) (kind : Kind) (before : List Event) (v : Event) → is_sequence_kind kind ≡ false
+-- a single kind is no sequence, and the other way round
+pub single-no_sequence : (kind : Kind) → is_single_kind kind ≡ true → is_sequence_kind kind ≡ false
+single-no_sequence Sequence s = absurd (cc)
+single-no_sequence kind s = refl
+
+pub no_sequence-single : (kind : Kind) → is_sequence_kind kind ≡ false → is_single_kind kind ≡ true
+no_sequence-single kind n = ap not n
+
+-- what a node of a single kind sends at an event, it sends at the send stamp
+pub at_send_stamp : (sys : System) (kind : Kind) (before : List Event) (v : Event) → is_single_kind kind ≡ true
     → sends_of_kind sys kind before v ≡ messages_at_some (send_stamp_of_kind sys.flow kind (event_stamp v)) (event_stamp v) (recs_on sys kind before v)
 at_send_stamp sys Sequence before v n = absurd (cc)
 at_send_stamp sys kind before v n = refl
@@ -123,9 +131,13 @@ pub by_stamp-no_sequence : (flow : Dataflow) (kind : Kind) → SendsByStamp flow
 by_stamp-no_sequence flow Sequence p = absurd p
 by_stamp-no_sequence flow kind p = refl
 
-pub kept-no_sequence : (kind : Kind) → may_keep_nothing kind ≡ true → is_sequence_kind kind ≡ false
-kept-no_sequence Sequence k = absurd (two_ways false k refl)
-kept-no_sequence kind k = refl
+pub by_stamp-single : (flow : Dataflow) (kind : Kind) → SendsByStamp flow kind → is_single_kind kind ≡ true
+by_stamp-single flow Sequence p = absurd p
+by_stamp-single flow kind p = refl
+
+pub kept-single : (kind : Kind) → may_keep_nothing kind ≡ true → is_single_kind kind ≡ true
+kept-single Sequence k = absurd (two_ways false k refl)
+kept-single kind k = refl
 
 -- a sequence keeps something
 pub keeps_something : (p : Policy) → IsPolicyAllowed Sequence p → restoring_of_policy p ≡ Anything → ⊥

@@ -1,5 +1,5 @@
 -- At which stamps the events and messages of a legal history are.
-use Rattle.std.proofs.Common.{◌≡◌, ℕ, ◌+◌, ◌≤◌, Bool, true, false, not, ◌==◌, ◌&&◌, nat_le, List, [], ◌∷◌, length, get_or, refl, sym, ap, ◌∙◌, inl, inr, arith, subst}
+use Rattle.std.proofs.Common.{◌≡◌, ℕ, ◌+◌, ◌≤◌, Bool, true, not, ◌==◌, ◌&&◌, nat_le, List, [], ◌∷◌, length, get_or, refl, sym, ap, ◌∙◌, inl, inr, arith, subst}
 use Rattle.std.specs.List.{AllByRecursion}
 use Rattle.std.proofs.lemmas.Bool.{and_parts, and_from, or_cases, cond_both, eqb-true, cases_lt, both_ways}
 use Rattle.std.proofs.lemmas.List.{get_or_past}
@@ -11,7 +11,7 @@ use Rattle.fw_flow.specs.declared.event.Event.TheVariants.{Inject, Deliver, Noti
 use Rattle.fw_flow.specs.declared.event.Message.{Message}
 use Rattle.fw_flow.specs.Kind.{Kind}
 use Rattle.fw_flow.specs.declared.kind.Kind.TheVariants.{Input}
-use Rattle.fw_flow.specs.Dataflow.{System, Dataflow, idle_node, kind_of, sender, receiver, greatest_number, domain_of, domain_of_kind, out_domain_of, out_domain_of_kind, bounds_of, bounds_of_domain, is_input_kind, is_notified_kind, send_stamp_of_kind, is_sequence_kind, bounds_of_edge, HasEpochs}
+use Rattle.fw_flow.specs.Dataflow.{System, Dataflow, idle_node, kind_of, sender, receiver, greatest_number, domain_of, domain_of_kind, out_domain_of, out_domain_of_kind, bounds_of, bounds_of_domain, is_input_kind, is_notified_kind, send_stamp_of_kind, bounds_of_edge, HasEpochs}
 use Rattle.fw_flow.specs.NodeFunction.{event_node, event_stamp, numbered_messages, sequence_sent, sends_of_kind, sends, sent_by}
 use Rattle.fw_flow.specs.Projection.{events_at}
 use Rattle.fw_flow.specs.WellFormed.{IsWellFormed}
@@ -23,7 +23,7 @@ use Rattle.fw_model.proofs.CarriedLaws.{carried-each}
 use Rattle.fw_model.proofs.StampLaws.{line-leq}
 use Rattle.fw_model.proofs.SendingLaws.{send_stamp_of_kind-in_domain}
 use Rattle.fw_model.proofs.SendsLaws.{IsAt, sends_of_kind-each}
-use Rattle.fw_model.specs.Sending.{recs_by_count_on}
+use Rattle.fw_model.specs.Sending.{is_single_kind, recs_by_count_on}
 use Rattle.fw_model.proofs.KindSorts.{sends_by}
 
 -- ---- what is sent
@@ -36,7 +36,7 @@ numbered-in_domain n cause (r ∷ rs) =
     (AllByRecursion (λ m. leq m.at (greatest_number ∷ []) ≡ true))
     (λ e. (and_from (nat_le n greatest_number) true e refl, numbered-in_domain (n + 1) cause rs)) (λ e. tt)
 
-sends_by_stamp-in_domain : (sys : System) (kind : Kind) (before : List Event) (v : Event) → is_sequence_kind kind ≡ false
+sends_by_stamp-in_domain : (sys : System) (kind : Kind) (before : List Event) (v : Event) → is_single_kind kind ≡ true
     → in_domain (bounds_of_domain sys.flow (domain_of_kind sys.flow kind)) (event_stamp v) ≡ true
     → AllByRecursion (λ (m : Message). in_domain (bounds_of_domain sys.flow (out_domain_of_kind sys.flow kind)) m.at ≡ true) (sends_of_kind sys kind before v)
 sends_by_stamp-in_domain sys kind before v n i =

@@ -13,7 +13,7 @@ use Rattle.fw_flow.specs.declared.event.Event.TheVariants.{Inject, Deliver, Noti
 use Rattle.fw_flow.specs.declared.event.Message.{Message}
 use Rattle.fw_flow.specs.declared.kind.Domain.TheVariants.{Epoch, Number}
 use Rattle.fw_flow.specs.declared.kind.Kind.TheVariants.{OutputEpoch}
-use Rattle.fw_flow.specs.Dataflow.{System, Dataflow, kind_of, sender, receiver, greatest_number, domain_of_kind, out_domain_of_kind, bounds_of, is_input_kind, is_notified_kind, send_stamp_of_kind, is_sequence_kind, HasEpochs}
+use Rattle.fw_flow.specs.Dataflow.{System, Dataflow, kind_of, sender, receiver, greatest_number, domain_of_kind, out_domain_of_kind, bounds_of, is_input_kind, is_notified_kind, send_stamp_of_kind, HasEpochs}
 use Rattle.fw_flow.specs.NodeFunction.{sent_by}
 use Rattle.fw_flow.specs.Projection.{events_at, all_inside, phi}
 use Rattle.fw_flow.specs.WellFormed.{IsWellFormed}
@@ -31,7 +31,7 @@ use Rattle.fw_model.proofs.CauseLaws.{inside_phi-from_inside}
 use Rattle.fw_model.proofs.SequenceLaws.{bounds-sequence, notified_in_domain, inside_phi_of_sequence-from_inside}
 use Rattle.fw_model.proofs.LegalLaws.{enabled-in_domain, legal-in_domain, legal_events-in_domain, only_inputs_inject, edge_domains}
 use Rattle.fw_model.proofs.CompleteLaws.{admissible-stays, sender_sorts, not_owed-notified}
-use Rattle.fw_model.specs.Sending.{ComesFromInside, SendsByCount}
+use Rattle.fw_model.specs.Sending.{is_single_kind, ComesFromInside, SendsByCount}
 use Rattle.fw_model.specs.Order.{notified_stamps, AreDescending}
 
 -- ---- a family with a notified stamp in it
@@ -262,7 +262,7 @@ idle-comes_from_inside sys h e f is =
     carried-each sys.flow e (λ (m : Message). phi sys h e f m.at ≡ true → all_inside f m.causes ≡ true) (sent_by sys p (events_at sys.flow p h))
     (each-weaker (IsOfCause sys.flow p) (λ m. phi sys h e f m.at ≡ true → all_inside f m.causes ≡ true) (sent_by sys p (events_at sys.flow p h))
     (λ m a k. let r : None ≡ Some m.at = sym (ap (λ kind. send_stamp_of_kind sys.flow kind a.0) is) ∙ a.1 in absurd (cc r))
-    (sent_by-of_cause sys p (ap is_sequence_kind is) (events_at sys.flow p h)))
+    (sent_by-of_cause sys p (ap is_single_kind is) (events_at sys.flow p h)))
 
 pub legal-inside_phi : LegalInsidePhiComesFromInside
 legal-inside_phi sys h w b l e f fr =

@@ -26,9 +26,10 @@ use Rattle.fw_flow.specs.declared.event.Message.{Message}
 use Rattle.fw_flow.specs.declared.node.Node.{Node}
 use Rattle.fw_flow.specs.declared.step.Step.{Step}
 use Rattle.fw_flow.specs.declared.step.Step.TheVariants.{Inject, Deliver, Notify, Progress as ProgressStep, Checkpoint, Persist, Fail, Recover, Collect, Ack}
-use Rattle.fw_flow.specs.Dataflow.{System, Dataflow, idle_node, kind_of, sender, receiver, bounds_of, is_notified_kind, send_stamp_of_kind, is_sequence_kind, HasEpochs}
+use Rattle.fw_flow.specs.Dataflow.{System, Dataflow, idle_node, kind_of, sender, receiver, bounds_of, is_notified_kind, send_stamp_of_kind, HasEpochs}
 use Rattle.fw_flow.specs.Projection.{events_at}
 use Rattle.fw_flow.specs.WellFormed.{IsWellFormed, IsWellFormedSystem}
+use Rattle.fw_model.specs.Sending.{is_single_kind}
 use Rattle.fw_model.specs.Denotation.{Family, IsDenotation, bag_at}
 use Rattle.fw_model.specs.History.{some_at, sent_messages, delivered_messages, pending_messages, was_delivered_to, was_notified, is_owed_notice, IsAdmissible, IsEnabled, IsLegal, recs_at}
 use Rattle.fw_model.specs.Machine.{Machine, SerialEvent, events, no_stamps, first_state, front_of, is_failed}
@@ -359,7 +360,7 @@ past-nothing sys h e past =
     let is = past_edges-idle sys.flow e past in
     each-weaker (IsOfCause sys.flow q) (λ m. ⊥) (sent_messages sys h e)
     (λ m a. let none : None ≡ Some m.at = sym (ap (λ kind. send_stamp_of_kind sys.flow kind a.0) is) ∙ a.1 in cc none)
-    (carried-each sys.flow e (IsOfCause sys.flow q) (sent_by sys q (events_at sys.flow q h)) (sent_by-of_cause sys q (ap is_sequence_kind is) (events_at sys.flow q h)))
+    (carried-each sys.flow e (IsOfCause sys.flow q) (sent_by sys q (events_at sys.flow q h)) (sent_by-of_cause sys q (ap is_single_kind is) (events_at sys.flow q h)))
 
 -- where as much was delivered as can be sent, nothing is pending
 denoted-quiet : (sys : System) (family : Family) (h : List Event) → IsWellFormedSystem sys → IsDenotation sys family → IsLegal sys h

@@ -23,7 +23,7 @@ use Rattle.fw_model.specs.Steps.{inside_if_some, sends_inside, is_given_up, is_s
 use Rattle.fw_model.specs.Filtering.{events_inside, messages_from, messages_outside}
 use Rattle.fw_model.specs.Resending.{at_receiver}
 use Rattle.fw_model.specs.Writes.{IsLoggedOnce}
-use Rattle.fw_model.proofs.KindSorts.{kept-no_sequence}
+use Rattle.fw_model.proofs.KindSorts.{kept-single}
 use Rattle.fw_model.proofs.CarriedLaws.{carried-from, carried-outside}
 use Rattle.fw_model.proofs.DomainLaws.{has_epochs}
 use Rattle.fw_model.proofs.FilteredLaws.{set-frontier}
@@ -178,7 +178,7 @@ given-adds_nothing sys low p e may l s f vs =
     ∙ and_from (g a.0) true
     (ap not (false_from_ne_true (is_given_up sys low p a.0) (λ k.
     two_ways (at_receiver sys low e m.at) (given-inside sys low p a.0 m.at e l s k a.1) (not-true (at_receiver sys low e m.at) o)))) refl)
-    (sent_by-of_cause sys p (kept-no_sequence (kind_of sys.flow p) may) vs)))
+    (sent_by-of_cause sys p (kept-single (kind_of sys.flow p) may) vs)))
 
 -- ---- the law
 

@@ -12,8 +12,9 @@ use Rattle.fw_flow.specs.NodeFunction.{sent_by}
 use Rattle.fw_flow.specs.declared.choice.Counted.{Counted}
 use Rattle.fw_flow.specs.declared.event.Event.{Event}
 use Rattle.fw_flow.specs.declared.event.Message.{Message}
-use Rattle.fw_flow.specs.Dataflow.{System, kind_of, sender, bounds_of, send_stamp, is_sequence_kind}
+use Rattle.fw_flow.specs.Dataflow.{System, kind_of, sender, bounds_of, send_stamp}
 use Rattle.fw_flow.specs.Projection.{all_inside, events_at}
+use Rattle.fw_model.specs.Sending.{is_single_kind}
 use Rattle.fw_model.specs.Alike.{SendAlike}
 use Rattle.fw_model.specs.Covers as machine
 use Rattle.fw_model.specs.History.{sent_messages}
@@ -213,7 +214,7 @@ alike-over send base f cs ds u w a k = elim (cases_Bool (base k.cause)) [
 -- ---- the law
 
 -- what stands for sent messages covers the same as these, from inside each set that holds the base
-pub sent-covers : (sys : System) (h : List Event) (e : ℕ) (base : Frontier) (ms : List Counted) → is_sequence_kind (kind_of sys.flow (sender sys.flow e)) ≡ false
+pub sent-covers : (sys : System) (h : List Event) (e : ℕ) (base : Frontier) (ms : List Counted) → is_single_kind (kind_of sys.flow (sender sys.flow e)) ≡ true
     → StandForSent true sys h (sender sys.flow e) base e ms → ((t : Stamp) → base t ≡ true → in_domain (bounds_of sys.flow (sender sys.flow e)) t ≡ true)
     → (f : Frontier) → Within base f → (b : Bounds)
     → cover b (map (λ (m : Counted). m.at) (filter (λ (m : Counted). all_inside f m.causes) ms)) ≡ cover b (machine.stamps_from f (sent_messages sys h e))
@@ -263,7 +264,7 @@ sent-covers sys h e base ms n s d f w b = λ i t. at t i
 -- ---- where perhaps not the whole is kept
 
 -- what stands for sent messages covers no more than these from inside each set, and these besides at most what comes from the base
-pub sent_outside-covers : (sys : System) (h : List Event) (e : ℕ) (base : Frontier) (ms : List Counted) → is_sequence_kind (kind_of sys.flow (sender sys.flow e)) ≡ false
+pub sent_outside-covers : (sys : System) (h : List Event) (e : ℕ) (base : Frontier) (ms : List Counted) → is_single_kind (kind_of sys.flow (sender sys.flow e)) ≡ true
     → StandForSent false sys h (sender sys.flow e) base e ms → (f : Frontier) (b : Bounds)
     → IsPoorer (cover b (map (λ (m : Counted). m.at) (filter (λ (m : Counted). all_inside f m.causes) ms))) (cover b (machine.stamps_from f (sent_messages sys h e)))
     (cover b (machine.stamps_from base (sent_messages sys h e)))

@@ -1,5 +1,5 @@
 -- Stamps of a node's events as data: they stand for where its events are and where they sent, thinned inside a base.
-use Rattle.std.specs.Prelude.{◌≡◌, ℕ, ◌<◌, Bool, true, false, not, ◌&&◌, Some, List, [], ◌∷◌, length, map, if◌then◌else◌}
+use Rattle.std.specs.Prelude.{◌≡◌, ℕ, ◌<◌, Bool, true, not, ◌&&◌, Some, List, [], ◌∷◌, length, map, if◌then◌else◌}
 use Rattle.std.specs.List.{AllByRecursion, flat_map}
 use Rattle.fw_time.specs.Stamp.{Stamp, in_domain}
 use Rattle.fw_frontier.specs.Frontier.{Frontier, everything}
@@ -9,6 +9,7 @@ use Rattle.fw_flow.specs.declared.event.Event.{Event}
 use Rattle.fw_flow.specs.declared.event.Message.{Message}
 use Rattle.fw_flow.specs.Dataflow.{System, Dataflow, kind_of, policy_of, sender, receiver, bounds_of, send_stamp, is_sequence_kind}
 use Rattle.fw_flow.specs.Restoring.{can_resend}
+use Rattle.fw_model.specs.Sending.{is_single_kind}
 use Rattle.fw_model.specs.Alike.{StandForCauses}
 use Rattle.fw_model.specs.Covers.{stamp_of_notice}
 use Rattle.fw_model.specs.History.{delivered_messages, sent_messages}
@@ -28,7 +29,7 @@ causes_in ms = flat_map (λ (m : Message). m.causes) ms
 abbrev pub IsOfCause : Dataflow → ℕ → Counted → Type 0
 IsOfCause flow p m = (t : Stamp) × (send_stamp flow p t ≡ Some m.at) × (m.causes ≡ t ∷ [])
 
--- Messages on edge e stand for those that node p sent there, which is no sequence: they are at the send stamps of their
+-- Messages on edge e stand for those that node p sent there, which is of a single kind: they are at the send stamps of their
 -- causes, and the causes stand for those of what was sent, perhaps not the whole.
 pub record StandForSent (whole : Bool) (sys : System) (h : List Event) (p : ℕ) (base : Frontier) (e : ℕ) (ms : List Counted) : Type 0 where
   pub of_cause : AllByRecursion (IsOfCause sys.flow p) ms
@@ -57,7 +58,7 @@ pub record AreStampsIf (whole : Bool) (sys : System) (h : List Event) (p : ℕ) 
   pub delivered : (d : ℕ) → receiver sys.flow d ≡ p
       → IsThinnedIf whole base (map (λ (m : Message). m.at) (delivered_messages h d)) (stamps_on d stamps.delivered)
   pub notified : IsThinnedIf whole base (flat_map (stamp_of_notice p) h) stamps.notified
-  pub sent : is_sequence_kind (kind_of sys.flow p) ≡ false → (e : ℕ) → e < length sys.flow.edges → sender sys.flow e ≡ p
+  pub sent : is_single_kind (kind_of sys.flow p) ≡ true → (e : ℕ) → e < length sys.flow.edges → sender sys.flow e ≡ p
       → StandForSent (whole && tells_sent sys.flow p) sys h p (base_of_sent sys.flow p base) e (counted_on_edge e stamps.sent)
   pub numbered : is_sequence_kind (kind_of sys.flow p) ≡ true → tells_sent sys.flow p ≡ true → (e : ℕ) → e < length sys.flow.edges
       → sender sys.flow e ≡ p → StandForNumbered sys h e stamps.sent

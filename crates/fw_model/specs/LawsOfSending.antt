@@ -11,7 +11,7 @@ use Rattle.fw_flow.specs.Projection.{all_inside, phi, psi, psi_back, IsSenderFro
 use Rattle.fw_flow.specs.WellFormed.{IsWellFormed}
 use Rattle.fw_model.specs.History.{sent_messages, AreEventsInDomain}
 use Rattle.fw_model.specs.Order.{IsNotifiedInOrder}
-use Rattle.fw_model.specs.Sending.{SendsByStamp, IsSentFrom, SendsAbove, SendsWithin, ComesFromInside, FollowsHistory, SendsByCount}
+use Rattle.fw_model.specs.Sending.{is_single_kind, SendsByStamp, IsSentFrom, SendsAbove, SendsWithin, ComesFromInside, FollowsHistory, SendsByCount}
 
 -- in a well-formed dataflow the sender of each edge is a sequence, or sends at the send stamps of its events
 abbrev pub SendersOfWellFormed : Type 0
@@ -57,10 +57,10 @@ PsiBackIsLargest = (flow : Dataflow) (e : ℕ) (g : Frontier)
     → IsSenderFrontier flow e (psi_back flow e g)
     × ((f : Frontier) → IsSenderFrontier flow e f → Within (psi flow e f) g ↔ Within f (psi_back flow e g))
 
--- each message that an event makes a node send that is no sequence is at the send stamp of the event, and its one cause is
--- the event's stamp
+-- each message that an event makes a node of a single kind send is at the send stamp of the event, and its one cause is the
+-- event's stamp
 abbrev pub SendsAtSendStamp : Type 0
-SendsAtSendStamp = (sys : System) (p : ℕ) → is_sequence_kind (kind_of sys.flow p) ≡ false
+SendsAtSendStamp = (sys : System) (p : ℕ) → is_single_kind (kind_of sys.flow p) ≡ true
     → (before : List Event) (v : Event)
     → AllByRecursion (λ (m : Message). (send_stamp sys.flow p (event_stamp v) ≡ Some m.at) × (m.causes ≡ event_stamp v ∷ []))
     (sends sys p before v)

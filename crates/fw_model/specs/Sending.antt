@@ -1,5 +1,5 @@
 -- At which stamps a node sends, and from which events its messages come.
-use Rattle.std.specs.Prelude.{◌≡◌, ℕ, ◌≤◌, true, false, List, [], ◌∷◌, ◌++◌, length, Option, Some}
+use Rattle.std.specs.Prelude.{◌≡◌, ℕ, ◌≤◌, Bool, true, false, not, List, [], ◌∷◌, ◌++◌, length, Option, Some}
 use Rattle.std.specs.List.{AllByRecursion}
 use Rattle.fw_time.specs.declared.stamp.Bounds.{Bounds}
 use Rattle.fw_time.specs.Stamp.{leq, in_domain, Stamp}
@@ -10,7 +10,7 @@ use Rattle.fw_flow.specs.declared.event.Event.TheVariants.{Notify}
 use Rattle.fw_flow.specs.declared.event.Message.{Message}
 use Rattle.fw_flow.specs.Kind.{Kind}
 use Rattle.fw_flow.specs.declared.kind.Kind.TheVariants.{Sequence, OutputNumber, Regroup, OutputEpoch, Feedback}
-use Rattle.fw_flow.specs.Dataflow.{Dataflow, max_of, System}
+use Rattle.fw_flow.specs.Dataflow.{Dataflow, is_sequence_kind, max_of, System}
 use Rattle.fw_flow.specs.NodeFunction.{recs_on_notification, recs_on, sends}
 use Rattle.fw_flow.specs.Projection.{all_inside, phi, IsSentTable, events_at}
 use Rattle.fw_model.specs.History.{sent_messages}
@@ -30,6 +30,11 @@ SendsByStamp flow kind = Unit {0}
 -- outputs sends by stamp or by count.
 abbrev pub SendsByCount : Kind → Type 0
 SendsByCount kind = kind ≡ Sequence
+
+-- whether what an event makes a node of the kind send is at the send stamp of the event, which is its one cause: the kind is no
+-- sequence
+abbrev pub is_single_kind : Kind → Bool
+is_single_kind kind = not (is_sequence_kind kind)
 
 -- what a node that sends by count numbers at a notification of t, where these are its earlier events
 abbrev pub recs_by_count : List Event → Stamp → List Rec

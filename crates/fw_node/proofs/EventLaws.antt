@@ -4,6 +4,7 @@ use Rattle.std.specs.Prelude.{◌&&◌, ◌||◌}
 use Rattle.std.specs.List.{list_any}
 use Rattle.std.proofs.lemmas.Bool.{eqb-true}
 use Rattle.std.proofs.lemmas.Bool.Decides.{nat_tests}
+use Rattle.fw_model.proofs.KindSorts.{single-no_sequence}
 use Rattle.fw_time.specs.Stamp.{Stamp, leq, same}
 use Rattle.fw_bag.specs.declared.rec.Rec.{Rec}
 use Rattle.fw_bag.specs.Keyed.{is_among, joined_rec, plus, value_sum, sorted_recs, sums_of, distinct_keys}
@@ -128,7 +129,7 @@ plain_some (Some at) cause rs = plain_messages at cause rs
 pub deliveries_answer : DeliveriesAnswer
 unfolding sends
 deliveries_answer sys p before e m n h o =
-    ap without_causes (by_send_stamp sys (kind_of sys.flow p) before (Deliver e m) n)
+    ap without_causes (by_send_stamp sys (kind_of sys.flow p) before (Deliver e m) (single-no_sequence (kind_of sys.flow p) n))
     ∙ plain_some (send_stamp sys.flow p m.at) m.at (recs_on_delivery (kind_of sys.flow p) before e m.at m.rec)
     ∙ ap (sent_if_at (send_stamp sys.flow p m.at)) (answers_delivery (kind_of sys.flow p) (in_edges sys.flow p) before e m.at m.rec h o)
 

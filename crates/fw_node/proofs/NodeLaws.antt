@@ -17,8 +17,9 @@ use Rattle.fw_flow.specs.declared.event.Event.TheVariants.{Inject, Deliver, Noti
 use Rattle.fw_flow.specs.declared.event.Message.{Message}
 use Rattle.fw_flow.specs.Kind.{Kind}
 use Rattle.fw_flow.specs.declared.kind.Kind.TheVariants as kind
-use Rattle.fw_flow.specs.Dataflow.{Dataflow, System, batches_of, bounds_of, kind_of, in_edges, greatest_number, is_input_kind, is_notified_kind, is_sequence_kind, node_frontier, send_stamp, send_stamp_of_kind}
+use Rattle.fw_flow.specs.Dataflow.{Dataflow, System, batches_of, bounds_of, kind_of, in_edges, greatest_number, is_input_kind, is_notified_kind, node_frontier, send_stamp, send_stamp_of_kind}
 use Rattle.fw_flow.specs.NodeFunction.{numbered_messages, recs_on_notification, sends, sends_of_kind, sequence_sent}
+use Rattle.fw_model.specs.Sending.{is_single_kind}
 use Rattle.fw_model.specs.Told.{is_told, EachDelivery, AreToldInside, IsSumOfTold}
 use Rattle.fw_table.specs.Sent.{sent_if_at}
 use Rattle.fw_numbered.specs.Numbers.{recs_numbered}
@@ -93,7 +94,7 @@ delivery_sends sys p before e m h o = by (kind_of sys.flow p) refl
     by kind.Sequence is =
         ap (λ k. without_causes (sends_of_kind sys k before (Deliver e m))) is
         ∙ sym (ap (λ k. sent_if_at (send_stamp_of_kind sys.flow k m.at) (recs_for k came a)) is)
-    by k is = deliveries_answer sys p before e m (ap is_sequence_kind is) h o
+    by k is = deliveries_answer sys p before e m (ap is_single_kind is) h o
 
 -- ---- notifications
 

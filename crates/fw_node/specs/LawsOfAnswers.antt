@@ -10,6 +10,7 @@ use Rattle.fw_flow.specs.declared.kind.Kind.TheVariants.{Total, Ledger}
 use Rattle.fw_flow.specs.Dataflow.{Dataflow, System, kind_of, in_edges, send_stamp, is_sequence_kind}
 use Rattle.fw_flow.specs.NodeFunction.{sends}
 use Rattle.fw_flow.specs.Projection.{events_at}
+use Rattle.fw_model.specs.Sending.{is_single_kind}
 use Rattle.fw_model.specs.Filtering.{events_inside}
 use Rattle.fw_model.specs.SortedMessages.{sorted_messages}
 use Rattle.fw_node.specs.Answers.{recs_for, recs_at_notice, caused_by, without_causes}
@@ -17,9 +18,9 @@ use Rattle.fw_node.specs.Sends.{notice_sends}
 use Rattle.fw_table.specs.Sent.{sent_if_at}
 use Rattle.fw_node.specs.Arrived.{place_in, arrived, IsOneOf, AreOnEdges}
 
--- what a delivery makes a node send that is no sequence, from what came to it
+-- what a delivery makes a node of a single kind send, from what came to it
 abbrev pub DeliveriesAnswer : Type 0
-DeliveriesAnswer = (sys : System) (p : ℕ) (before : List Event) (e : ℕ) (m : Message) → is_sequence_kind (kind_of sys.flow p) ≡ false
+DeliveriesAnswer = (sys : System) (p : ℕ) (before : List Event) (e : ℕ) (m : Message) → is_single_kind (kind_of sys.flow p) ≡ true
     → IsOneOf (in_edges sys.flow p) e → AreOnEdges (in_edges sys.flow p) before
     → without_causes (sends sys p before (Deliver e m)) ≡ sent_if_at (send_stamp sys.flow p m.at)
     (recs_for (kind_of sys.flow p) (arrived (in_edges sys.flow p) before) (record { side = place_in (in_edges sys.flow p) e; at = m.at; rec = m.rec }))

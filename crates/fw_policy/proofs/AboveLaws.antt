@@ -20,6 +20,7 @@ use Rattle.fw_flow.specs.Dataflow.{System, Dataflow, kind_of, policy_of, sender,
 use Rattle.fw_flow.specs.Projection.{all_inside, psi}
 use Rattle.fw_flow.specs.Restoring.{can_resend, way_of}
 use Rattle.fw_flow.specs.WellFormed.{IsWellFormed}
+use Rattle.fw_model.proofs.KindSorts.{single-no_sequence, no_sequence-single}
 use Rattle.fw_model.specs.Choice.{kept, cut_of, logged_history, AllLogged, IsRestorable}
 use Rattle.fw_model.specs.Choosing.{choice_at}
 use Rattle.fw_model.specs.Covers.{takes_its_cut, takes_its_notices, covers_in, stamp_of_notice, stamps_from, stamps_inside, notified_inside, discarded_at}
@@ -28,7 +29,7 @@ use Rattle.fw_model.specs.History.{delivered_messages, sent_messages}
 use Rattle.fw_model.specs.Machine.{Machine, events, front_of}
 use Rattle.fw_model.specs.Offers.{notified_of, delivered_to, offered_sent, IsOffered, stamps_on, stamps_on_from, counted_on_edge, delivered_in, sent_in, notified_in, recorded_delivered, recorded_discarded, recorded_notified, covers_of, AreOffersAbove}
 use Rattle.fw_model.specs.Poorer.{IsPoorer}
-use Rattle.fw_model.specs.Sending.{SendsByStamp}
+use Rattle.fw_model.specs.Sending.{is_single_kind, SendsByStamp}
 use Rattle.fw_model.specs.Writes.{takes_checkpoints}
 use Rattle.fw_model.proofs.AskedLaws.{takes-restoring}
 use Rattle.fw_model.proofs.ChoiceLaws.{by_batches-input}
@@ -396,7 +397,7 @@ outside-sent : (sys : System) (state : Machine) (lost : ℕ → Bool) (floor : L
     (e : ℕ) (l : e < length sys.flow.edges)
     → AreStampsOf sys (events state.history) (sender sys.flow e) (base_of sys floor state (sender sys.flow e)) (a.each (sender sys.flow e) (a.well_formed.flow.senders_declared e l)).node.stamps
     → (way_of sys.flow (sender sys.flow e) ≡ Checkpoints → ⊥)
-    → is_sequence_kind (kind_of sys.flow (sender sys.flow e)) ≡ false → can_resend (policy_of sys.flow (sender sys.flow e)) ≡ false → (f : Frontier)
+    → is_single_kind (kind_of sys.flow (sender sys.flow e)) ≡ true → can_resend (policy_of sys.flow (sender sys.flow e)) ≡ false → (f : Frontier)
     → IsPoorer (cover (bounds_of sys.flow (receiver sys.flow e)) (stamps_on_from e f (offered_sent offers (sender sys.flow e))))
     (cover (bounds_of sys.flow (receiver sys.flow e)) (stamps_from f (sent_messages sys (events state.history) e)))
     ((covers_in sys state).discarded e (At (front_of floor (sender sys.flow e))))
@@ -421,7 +422,7 @@ outside-sent sys state lost floor entries offers a e l k n s r f =
     subst (λ (xs : List Counted). IsPoorer (cover b (stamps_on_from e f xs)) theirs below) (sym (sent-is sys state lost floor entries offers p o))
     (subst (λ (xs : List Counted). IsPoorer (cover b (map (λ (m : Counted). m.at) xs)) theirs below) (sym (filter-split e f ms))
     (poorer-more _ theirs (cover b (stamps_from base all)) below
-    (λ t i. discarded-floor sys state e (front_of floor p) a.well_formed.flow l s r t
+    (λ t i. discarded-floor sys state e (front_of floor p) a.well_formed.flow l (single-no_sequence (kind_of sys.flow p) s) r t
     (cover-from b base (node_frontier sys.flow p (front_of floor p)) all (base-floor sys floor state p a.well_formed.flow there n) t i))
     poorer))
 
@@ -454,7 +455,7 @@ sent-poorer sys state lost floor entries offers a e l i r = by (way_of sys.flow 
     outside : (way_of sys.flow (sender sys.flow e) ≡ Checkpoints → ⊥) → IsPoorer ours theirs below
     outside n = elim (cases_Bool (is_sequence_kind (kind_of sys.flow (sender sys.flow e)))) [
       | inl s ↦ exact (λ n. absurd (two_ways (is_sequence_kind (kind_of sys.flow (sender sys.flow e))) s n))
-      | inr s ↦ outside-sent sys state lost floor entries offers a e l known n s r all
+      | inr s ↦ outside-sent sys state lost floor entries offers a e l known n (no_sequence-single (kind_of sys.flow (sender sys.flow e)) s) r all
     ]
 
     by : (way : Restoring) → way_of sys.flow (sender sys.flow e) ≡ way → IsPoorer ours theirs below
@@ -512,7 +513,7 @@ discarded-poorer sys state lost floor entries offers a e l (At f) i = elim (case
     by Batches k r =
         let o = a.each p (a.well_formed.flow.senders_declared e l) in
         along Batches k (outside-sent sys state lost floor entries offers a e l (known-batches sys floor state p o.node.stamps (lost p) o.known.stamps k)
-        (λ c. let x : Batches ≡ Checkpoints = sym k ∙ c in cc) (ap is_sequence_kind (by_batches-input (kind_of sys.flow p) (policy_of sys.flow p) k)) r g)
+        (λ c. let x : Batches ≡ Checkpoints = sym k ∙ c in cc) (ap is_single_kind (by_batches-input (kind_of sys.flow p) (policy_of sys.flow p) k)) r g)
     by Bound k r = absurd (no-output sys.flow (kind_of sys.flow p) (bound-output (kind_of sys.flow p) (policy_of sys.flow p) k) (senders_well_formed sys.flow a.well_formed.flow e l))
     by Anything k r = along Anything k (poorer-equal (psi sys.flow e g) (psi sys.flow e g) below refl)
     by Checkpoints k r =

@@ -10,6 +10,8 @@ use Rattle.fw_time.specs.declared.stamp.Bounds.{Bounds}
 use Rattle.fw_frontier.specs.Frontier.{Frontier, Within, nothing, everything, cover, meet}
 use Rattle.fw_frontier.specs.Front.{Front, inside, frontier_of, IsCanonical, IsFrontOf, is_within}
 use Rattle.fw_frontier.proofs.NamesLaws.{frontier-closed, is_within-holds, within-is}
+use Rattle.fw_model.proofs.KindSorts.{no_sequence-single}
+use Rattle.fw_model.specs.Sending.{is_single_kind}
 use Rattle.fw_model.proofs.LesserLaws.{lesser-in_domain}
 use Rattle.fw_model.proofs.ThinnedLaws.{thinned-covers, thinned-whole}
 use Rattle.fw_flow.specs.declared.choice.Counted.{Counted}
@@ -628,7 +630,7 @@ pub told-base : (flow : Dataflow) (p : ℕ) (base : Frontier) → can_resend (po
 told-base flow p base r = ap (λ c. cond (not c) base (λ t. true)) r
 
 pub sent-thinned : (sys : System) (state : Machine) (lost : ℕ → Bool) (floor : List Front) (entries : List Entry) (offers : List Offer) (a : AreOffersKnown sys state lost floor entries offers) (e : ℕ) (l : e < length sys.flow.edges)
-    → IsWholeView sys state floor (sender sys.flow e) (a.each (sender sys.flow e) (a.well_formed.flow.senders_declared e l)).node → is_sequence_kind (kind_of sys.flow (sender sys.flow e)) ≡ false
+    → IsWholeView sys state floor (sender sys.flow e) (a.each (sender sys.flow e) (a.well_formed.flow.senders_declared e l)).node → is_single_kind (kind_of sys.flow (sender sys.flow e)) ≡ true
     → can_resend (policy_of sys.flow (sender sys.flow e)) ≡ false → (f : Frontier) → Within (base_of sys floor state (sender sys.flow e)) f
     → cover (bounds_of sys.flow (receiver sys.flow e)) (stamps_on_from e f (offered_sent offers (sender sys.flow e)))
     ≡ cover (bounds_of sys.flow (receiver sys.flow e)) (stamps_from f (sent_messages sys (events state.history) e))
@@ -660,12 +662,12 @@ sent-everything sys state lost floor entries offers a e l r numbered whole = eli
       let b = bounds_of sys.flow (receiver sys.flow e) in
       ap (λ (xs : List Counted). cover b (stamps_on_from e (everything (bounds_of sys.flow p)) xs)) (sent-is sys state lost floor entries offers p o)
       ∙ numbered-covers sys (events state.history) e o.node.stamps.sent (numbered s) (a.in_domain p)
-  | inr n ↦ sent-thinned sys state lost floor entries offers a e l (whole n) n r (everything (bounds_of sys.flow (sender sys.flow e))) (λ t i. base-domain sys floor state (sender sys.flow e) t i)
+  | inr n ↦ sent-thinned sys state lost floor entries offers a e l (whole n) (no_sequence-single (kind_of sys.flow (sender sys.flow e)) n) r (everything (bounds_of sys.flow (sender sys.flow e))) (λ t i. base-domain sys floor state (sender sys.flow e) t i)
 ]
 
-pub output-no_sequence : (kind : Kind) → (kind ≡ OutputEpoch) ⊎ (kind ≡ OutputNumber) → is_sequence_kind kind ≡ false
-output-no_sequence kind (inl e) = ap is_sequence_kind e
-output-no_sequence kind (inr e) = ap is_sequence_kind e
+pub output-single : (kind : Kind) → (kind ≡ OutputEpoch) ⊎ (kind ≡ OutputNumber) → is_single_kind kind ≡ true
+output-single kind (inl e) = ap is_single_kind e
+output-single kind (inr e) = ap is_single_kind e
 
 discarded-same : (sys : System) (state : Machine) (lost : ℕ → Bool) (entries : List Entry) (offers : List Offer) (a : AreOffersKnown sys state lost state.low entries offers)
     → AreWholeFrom sys state state.low 0 a.view → (e : ℕ) → e < length sys.flow.edges → (cut : Cut)
@@ -704,7 +706,7 @@ discarded-same sys state lost entries offers a whole e l (At f) i = elim (cases_
     theirs way = discarded_at sys.flow e way
         (cover (bounds_of sys.flow (receiver sys.flow e)) (stamps_from (node_frontier sys.flow (sender sys.flow e) f) (sent_messages sys (events state.history) e))) f
 
-    thin : (way_of sys.flow (sender sys.flow e) ≡ Checkpoints → ⊥) → is_sequence_kind (kind_of sys.flow (sender sys.flow e)) ≡ false
+    thin : (way_of sys.flow (sender sys.flow e) ≡ Checkpoints → ⊥) → is_single_kind (kind_of sys.flow (sender sys.flow e)) ≡ true
         → can_resend (policy_of sys.flow (sender sys.flow e)) ≡ false
         → cover (bounds_of sys.flow (receiver sys.flow e)) (stamps_on_from e (node_frontier sys.flow (sender sys.flow e) f) (offered_sent offers (sender sys.flow e)))
         ≡ cover (bounds_of sys.flow (receiver sys.flow e)) (stamps_from (node_frontier sys.flow (sender sys.flow e) f) (sent_messages sys (events state.history) e))
@@ -714,11 +716,11 @@ discarded-same sys state lost entries offers a whole e l (At f) i = elim (cases_
         → ours (way_of sys.flow (sender sys.flow e)) ≡ theirs (way_of sys.flow (sender sys.flow e))
     by Batches k r =
         ap ours k
-        ∙ thin (λ c. let x : Batches ≡ Checkpoints = sym k ∙ c in cc) (ap is_sequence_kind (by_batches-input (kind_of sys.flow p) (policy_of sys.flow p) k)) r
+        ∙ thin (λ c. let x : Batches ≡ Checkpoints = sym k ∙ c in cc) (ap is_single_kind (by_batches-input (kind_of sys.flow p) (policy_of sys.flow p) k)) r
         ∙ sym (ap theirs k)
     by Bound k r =
         ap ours k
-        ∙ thin (λ c. let x : Bound ≡ Checkpoints = sym k ∙ c in cc) (output-no_sequence (kind_of sys.flow p) (bound-output (kind_of sys.flow p) (policy_of sys.flow p) k)) r
+        ∙ thin (λ c. let x : Bound ≡ Checkpoints = sym k ∙ c in cc) (output-single (kind_of sys.flow p) (bound-output (kind_of sys.flow p) (policy_of sys.flow p) k)) r
         ∙ sym (ap theirs k)
     by Anything k r = ap ours k ∙ sym (ap theirs k)
     by Checkpoints k r =

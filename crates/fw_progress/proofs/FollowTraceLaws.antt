@@ -18,6 +18,8 @@ use Rattle.fw_flow.specs.Dataflow.{System, Dataflow, kind_of, receiver, is_seque
 use Rattle.fw_flow.specs.KeyParts.{is_of_part_if, part_of}
 use Rattle.fw_flow.specs.NodeFunction.{event_node, event_stamp, sends, sent_by}
 use Rattle.fw_flow.specs.Projection.{events_at}
+use Rattle.fw_model.proofs.KindSorts.{single-no_sequence}
+use Rattle.fw_model.specs.Sending.{is_single_kind}
 use Rattle.fw_model.specs.Carried.{carried}
 use Rattle.fw_model.specs.Covers.{stamp_of_notice}
 use Rattle.fw_model.specs.History.{message_on, delivered_messages, sent_messages}
@@ -143,7 +145,7 @@ tells-follow flow v sent old new tells whole sys h e is p base t =
           (told.delivered whole d base (map (λ (m : Message). m.at) (delivered_messages h d)) (t.delivered d l r));
       notified = told.notified whole p base (flat_map (stamp_of_notice p) h) t.notified;
       sent = λ d l r k.
-          subst (λ n. is_sequence_kind (kind_of sys.flow n) ≡ false → StandForCauses sys.flow n (whole_at n) (base_at n) (causes_in (sent_messages sys h d)) (stamps_where_sent old d)
+          subst (λ n. is_single_kind (kind_of sys.flow n) ≡ true → StandForCauses sys.flow n (whole_at n) (base_at n) (causes_in (sent_messages sys h d)) (stamps_where_sent old d)
           → StandForCauses sys.flow n (whole_at n) (base_at n) (causes_in (sent_messages sys (v ∷ h) d)) (stamps_where_sent new d)) r (sends_after told d l) k (t.sent d l r k);
       counted = λ k. counts_after told p k (t.counted k);
     }
@@ -194,7 +196,7 @@ tells-follow flow v sent old new tells whole sys h e is p base t =
         sent-more sys h v d
         ∙ ap (λ b. cond b (carried sys.flow d (on (sender sys.flow d))) [] ++ sent_messages sys h d) (false_from_ne_true (q == sender sys.flow d) (λ k. n (sym (eqb-true q (sender sys.flow d) k))))
 
-    sends_after : Tells sys.flow v sent old new → (d : ℕ) → d < length sys.flow.edges → is_sequence_kind (kind_of sys.flow (sender sys.flow d)) ≡ false
+    sends_after : Tells sys.flow v sent old new → (d : ℕ) → d < length sys.flow.edges → is_single_kind (kind_of sys.flow (sender sys.flow d)) ≡ true
         → StandForCauses sys.flow (sender sys.flow d) (whole_at (sender sys.flow d)) (base_at (sender sys.flow d)) (causes_in (sent_messages sys h d)) (stamps_where_sent old d)
         → StandForCauses sys.flow (sender sys.flow d) (whole_at (sender sys.flow d)) (base_at (sender sys.flow d)) (causes_in (sent_messages sys (v ∷ h) d)) (stamps_where_sent new d)
     sends_after told d l k i =
@@ -206,7 +208,7 @@ tells-follow flow v sent old new tells whole sys h e is p base t =
               (sym (ap causes_in (sent_here d j) ∙ flat_map-append (λ (m : Message). m.causes) (some d) (sent_messages sys h d)))
               (for-more sys.flow n (whole_at n) (base_at n) (causes_in (some d)) (causes_in (sent_messages sys h d)) (stamps_where_sent old d) (stamps_where_sent new d)
               (λ all. many-if (whole_at n) (event_stamp v) (length (stamps_on sys.flow d sent)) (stamps_where_sent old d) (stamps_where_sent new d)
-              (told.sends.sent.here d l j (sym (ap (λ x. is_sequence_kind (kind_of sys.flow x)) j) ∙ k)) (base_at n) all (causes_in (some d)) (parts.0 ∙ as_many d) parts.1) i)
+              (told.sends.sent.here d l j (sym (ap (λ x. is_single_kind (kind_of sys.flow x)) j) ∙ k)) (base_at n) all (causes_in (some d)) (parts.0 ∙ as_many d) parts.1) i)
           | inr j ↦
               subst (λ ms. StandForCauses sys.flow n (whole_at n) (base_at n) (causes_in ms) (stamps_where_sent new d)) (sym (sent_else d j))
               (subst (StandForCauses sys.flow n (whole_at n) (base_at n) (causes_in (sent_messages sys h d))) (sym (told.sends.sent.others d j)) i)
@@ -262,7 +264,7 @@ injected-tells flow p x sent old new d n s = record {
 -- nothing is kept of what a sequence sends
 pub sent-none : (flow : Dataflow) (p : ℕ) (at : Stamp) (sent : List (Stamp × Rec)) (old : List (List Stamp)) → is_sequence_kind (kind_of flow p) ≡ true
     → ChangesEachOut flow p (λ e. SentMore flow p at (length (stamps_on flow e sent))) old old
-sent-none flow p at sent old k = record { one_each = refl; here = λ e l s n. absurd (both_ways (is_sequence_kind (kind_of flow p)) n k); others = λ e n. refl }
+sent-none flow p at sent old k = record { one_each = refl; here = λ e l s n. absurd (both_ways (is_sequence_kind (kind_of flow p)) (single-no_sequence (kind_of flow p) n) k); others = λ e n. refl }
 
 pub sent-some : (flow : Dataflow) (p : ℕ) (at : Stamp) (sent : List (Stamp × Rec)) (old new : List (List Stamp))
     → ChangesEachOut flow p (λ e. StandForManyMore at (length (stamps_on flow e sent))) old new

@@ -11,10 +11,11 @@ use Rattle.fw_frontier.specs.Frontier.{Frontier}
 use Rattle.fw_flow.specs.declared.choice.Counted.{Counted}
 use Rattle.fw_flow.specs.declared.event.Event.{Event}
 use Rattle.fw_flow.specs.declared.event.Message.{Message}
-use Rattle.fw_flow.specs.Dataflow.{System, Dataflow, kind_of, sender, receiver, bounds_of, bounds_of_edge, bounds_of_domain, edges_into, in_edges, out_edges, send_stamp, is_sequence_kind}
+use Rattle.fw_flow.specs.Dataflow.{System, Dataflow, kind_of, sender, receiver, bounds_of, bounds_of_edge, bounds_of_domain, edges_into, in_edges, out_edges, send_stamp}
 use Rattle.fw_flow.specs.NodeFunction.{sent_by}
 use Rattle.fw_flow.specs.Projection.{events_at, all_inside}
 use Rattle.fw_flow.specs.WellFormed.{IsWellFormed}
+use Rattle.fw_model.specs.Sending.{is_single_kind}
 use Rattle.fw_model.specs.History.{sent_messages}
 use Rattle.fw_model.specs.Offers.{AreAtEdgeStamps, counted_on_edge, stamps_on}
 use Rattle.fw_model.proofs.CarriedLaws.{carried-each}
@@ -165,7 +166,7 @@ causes-send flow p (m ∷ ms) a =
     subst (λ (cs : List Stamp). AllByRecursion Q (cs ++ causes_in ms)) (sym c.2) ((m.at, c.1), causes-send flow p ms a.1)
 
 -- each stamp that is among the causes of what was sent on an edge sends
-pub kept-send : (sys : System) (h : List Event) (e : ℕ) (whole : Bool) (base : Frontier) (kept : List Stamp) → is_sequence_kind (kind_of sys.flow (sender sys.flow e)) ≡ false
+pub kept-send : (sys : System) (h : List Event) (e : ℕ) (whole : Bool) (base : Frontier) (kept : List Stamp) → is_single_kind (kind_of sys.flow (sender sys.flow e)) ≡ true
     → AreOf (bounds_of sys.flow (sender sys.flow e)) (causes_in (sent_messages sys h e))
     → StandForCauses sys.flow (sender sys.flow e) whole base (causes_in (sent_messages sys h e)) kept → AllByRecursion (Sends sys.flow (sender sys.flow e)) kept
 kept-send sys h e whole base kept n d s =

@@ -16,6 +16,7 @@ use Rattle.fw_flow.specs.declared.event.Message.{Message}
 use Rattle.fw_flow.specs.Dataflow.{System, Dataflow, kind_of, receiver, out_edges, is_sequence_kind, sender}
 use Rattle.fw_flow.specs.NodeFunction.{event_stamp, sent_by}
 use Rattle.fw_flow.specs.Projection.{events_at, all_inside, count_from}
+use Rattle.fw_model.proofs.KindSorts.{single-no_sequence}
 use Rattle.fw_model.specs.Covers.{stamp_of_notice}
 use Rattle.fw_model.specs.Alike.{StandForCauses}
 use Rattle.fw_model.proofs.AlikeLaws.{for-kept}
@@ -140,7 +141,7 @@ causes-on flow p ms edges old new is a =
 
 -- nothing is kept of where a sequence sent
 pub causes-none : (flow : Dataflow) (p : ℕ) (ms : List Counted) (old : Lists) → is_sequence_kind (kind_of flow p) ≡ true → AreCausesOnEdges flow p ms old old
-causes-none flow p ms old k = record { one_each = refl; here = λ e l s n. absurd (two_ways (is_sequence_kind (kind_of flow p)) k n); others = λ e n. refl }
+causes-none flow p ms old k = record { one_each = refl; here = λ e l s n. absurd (two_ways (is_sequence_kind (kind_of flow p)) k (single-no_sequence (kind_of flow p) n)); others = λ e n. refl }
 
 told-lists : (flow : Dataflow) (p : ℕ) (stamps : Stamps) (n : ℕ) (old new : Traces) → AreTold flow p stamps n old new → (q : ℕ) → q ≢ p → KeepsLists flow q old new
 told-lists flow p stamps n old new c q k = record {

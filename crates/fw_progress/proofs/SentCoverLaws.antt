@@ -25,12 +25,12 @@ use Rattle.fw_flow.specs.WellFormed.{IsPolicyAllowed, IsWellFormed}
 use Rattle.fw_model.specs.Covers.{stamps_from}
 use Rattle.fw_model.specs.Filtering.{AreFrontiers, kept_events, messages_from}
 use Rattle.fw_model.specs.History.{is_injection, injected_count, sent_messages, IsLegal}
-use Rattle.fw_model.specs.Sending.{SendsByCount}
+use Rattle.fw_model.specs.Sending.{is_single_kind, SendsByCount}
 use Rattle.fw_model.specs.Thinned.{IsThinned}
 use Rattle.fw_model.specs.Writes.{takes_checkpoints}
 use Rattle.fw_model.specs.Carried.{carried}
 use Rattle.fw_model.proofs.CarriedLaws.{carried-numbered}
-use Rattle.fw_model.proofs.KindSorts.{is_sequence, keeps_something}
+use Rattle.fw_model.proofs.KindSorts.{no_sequence-single, is_sequence, keeps_something}
 use Rattle.fw_model.proofs.LegalLaws.{edge_domains, legal_events-in_domain, legal_messages-in_domain, only_inputs_inject}
 use Rattle.fw_model.proofs.LocalityLaws.{sent_by-same}
 use Rattle.fw_model.proofs.SequenceLaws.{no_inject, sent_by-sequence}
@@ -177,7 +177,7 @@ sequence-covers sys h e f traces w b l k counts t n is =
     }
 
 pub stamps-cover : (sys : System) (h : List Event) (e : ℕ) (f : Front) (traces : Traces) → e < length sys.flow.edges → IsWellFormed sys.flow → HasEpochs sys → IsLegal sys h
-    → is_sequence_kind (kind_of sys.flow (sender sys.flow e)) ≡ false → tells_sent sys.flow (sender sys.flow e) ≡ true → IsTraceWithin true sys h (sender sys.flow e) f traces
+    → is_single_kind (kind_of sys.flow (sender sys.flow e)) ≡ true → tells_sent sys.flow (sender sys.flow e) ≡ true → IsTraceWithin true sys h (sender sys.flow e) f traces
     → CoverSent sys h e f (send_stamps sys.flow (sender sys.flow e) (filter (inside f) (stamps_where_sent traces e)))
 stamps-cover sys h e f traces there w b l k told t =
     let p = sender sys.flow e in
@@ -218,7 +218,7 @@ inside-covers sys h e f traces there w b l told t = by (is_sequence_kind (kind_o
 
     by : (c : Bool) → is_sequence_kind (kind_of sys.flow p) ≡ c → CoverSent sys h e f (cond c (last_number n) (send_stamps sys.flow p (filter (inside f) (stamps_where_sent traces e))))
     by true k = sequence-covers sys h e f traces w b l k (counts-sequence sys.flow w p (w.senders_declared e there) k told) t n refl
-    by false k = stamps-cover sys h e f traces there w b l k told t
+    by false k = stamps-cover sys h e f traces there w b l (no_sequence-single (kind_of sys.flow p) k) told t
 
 -- the cover of what stands for what a node sent is that of all that it sent
 pub sent-stand : {E : Type 0} (flow : Dataflow) (e : ℕ) (f : Front) (traces : Traces) (sent : List Stamp) (bounds : Bounds) (result : Result Front E) → IsWellFormed flow → e < length flow.edges

@@ -31,9 +31,9 @@ use Rattle.fw_model.specs.EventStamps.{causes_in, base_of_sent, tells_sent, Stan
 use Rattle.fw_model.specs.Filtering.{events_inside, messages_inside, messages_from, kept_events}
 use Rattle.fw_model.specs.History.{is_injection, injected_count, delivered_messages, AreEventsInDomain, IsLegal, sent_messages}
 use Rattle.fw_model.specs.Offers.{AreAtEdgeStamps, counted_on_edge, stamps_on, stamps_on_from}
-use Rattle.fw_model.specs.Sending.{SendsByCount}
+use Rattle.fw_model.specs.Sending.{is_single_kind, SendsByCount}
 use Rattle.fw_model.specs.Thinned.{IsThinned, IsThinnedIf}
-use Rattle.fw_model.proofs.KindSorts.{is_sequence}
+use Rattle.fw_model.proofs.KindSorts.{single-no_sequence, no_sequence-single, is_sequence}
 use Rattle.fw_model.proofs.LegalLaws.{edge_domains, legal_events-in_domain}
 use Rattle.fw_model.proofs.LocalityLaws.{events_at-kept, sent_by-same, sends-same}
 use Rattle.fw_model.proofs.SequenceLaws.{no_inject, sent_by-sequence}
@@ -55,7 +55,7 @@ use Rattle.fw_progress.proofs.TraceLaws.{among-domain, among-passed, kept-domain
 record AreKept (whole : Bool) (sys : System) (h : List Event) (p : ℕ) (base : Frontier) (kept : ℕ → List Stamp) (notified : List Stamp) (sent : ℕ → List Stamp) (n : ℕ) : Type 0 where
   on_edges : (d : ℕ) → d < length sys.flow.edges → receiver sys.flow d ≡ p → IsThinnedIf whole base (map (λ (m : Message). m.at) (delivered_messages h d)) (kept d)
   notices : IsThinnedIf whole base (flat_map (stamp_of_notice p) h) notified
-  sends : (e : ℕ) → e < length sys.flow.edges → sender sys.flow e ≡ p → is_sequence_kind (kind_of sys.flow p) ≡ false
+  sends : (e : ℕ) → e < length sys.flow.edges → sender sys.flow e ≡ p → is_single_kind (kind_of sys.flow p) ≡ true
       → StandForCauses sys.flow p (whole && tells_sent sys.flow p) (base_of_sent sys.flow p base) (causes_in (sent_messages sys h e)) (sent e)
   count : is_sequence_kind (kind_of sys.flow p) ≡ true → counts_sent sys.flow p ≡ true → n ≡ length (sent_by sys p (events_at sys.flow p h))
 
@@ -181,16 +181,16 @@ kept-stand whole sys h p base kept notified sent n w l proper k = record {
   delivered = λ d r. let i = edge-there sys.flow p d l r in subst (IsThinnedIf whole base (map (λ (m : Message). m.at) (delivered_messages h d))) (sym (delivered-on sys.flow p kept d i r)) (k.on_edges d i r);
   notified = k.notices;
   sent = λ s e i r.
-      subst (StandForSent (whole && tells_sent sys.flow p) sys h p (base_of_sent sys.flow p base) e) (sym (ap (counted_on_edge e) (all-others sys.flow p sent n s) ∙ sent-on sys.flow p sent e i r))
+      subst (StandForSent (whole && tells_sent sys.flow p) sys h p (base_of_sent sys.flow p base) e) (sym (ap (counted_on_edge e) (all-others sys.flow p sent n (single-no_sequence (kind_of sys.flow p) s)) ∙ sent-on sys.flow p sent e i r))
       (stands-for_sent (whole && tells_sent sys.flow p) sys h p (base_of_sent sys.flow p base) (sent e) e i r (sends s e i r) (k.sends e i r s));
   numbered = λ s t e i r. numbered s (counts-sequence sys.flow w p l s t) e i r;
 }
   where
-    sends : is_sequence_kind (kind_of sys.flow p) ≡ false → (e : ℕ) → e < length sys.flow.edges → sender sys.flow e ≡ p → AllByRecursion (Sends sys.flow p) (sent e)
+    sends : is_single_kind (kind_of sys.flow p) ≡ true → (e : ℕ) → e < length sys.flow.edges → sender sys.flow e ≡ p → AllByRecursion (Sends sys.flow p) (sent e)
     sends s e i r =
         let told = whole && tells_sent sys.flow p in
         let inside = base_of_sent sys.flow p base in
-        subst (λ q. is_sequence_kind (kind_of sys.flow q) ≡ false → AreOf (bounds_of sys.flow q) (causes_in (sent_messages sys h e))
+        subst (λ q. is_single_kind (kind_of sys.flow q) ≡ true → AreOf (bounds_of sys.flow q) (causes_in (sent_messages sys h e))
         → StandForCauses sys.flow q told inside (causes_in (sent_messages sys h e)) (sent e) → AllByRecursion (Sends sys.flow q) (sent e)) r
         (kept-send sys h e told inside (sent e)) s (edge-domain sys h p e r proper.in_the_domain) (k.sends e i r s)
 
@@ -218,7 +218,7 @@ kept-stand whole sys h p base kept notified sent n w l proper k = record {
         subst (AreAtEdgeStamps sys.flow) (sym (all-others sys.flow p sent n s))
         (each-joined (λ (m : Counted). in_domain (bounds_of sys.flow (receiver sys.flow m.edge)) m.at ≡ true) (λ e. counted_at_stamps sys.flow p (sent e) e) (out_edges sys.flow p)
         (out_edges-from (λ e. AllByRecursion (λ (m : Counted). in_domain (bounds_of sys.flow (receiver sys.flow m.edge)) m.at ≡ true) (counted_at_stamps sys.flow p (sent e) e)) sys.flow p
-        (λ e i r. messages-on_edges sys.flow w p (sent e) e r (sends s e i r))))
+        (λ e i r. messages-on_edges sys.flow w p (sent e) e r (sends (no_sequence-single (kind_of sys.flow p) s) e i r))))
 
     numbered : is_sequence_kind (kind_of sys.flow p) ≡ true → counts_sent sys.flow p ≡ true → (e : ℕ) → e < length sys.flow.edges → sender sys.flow e ≡ p
         → StandForNumbered sys h e (all_sent sys.flow p sent n)

@@ -1,11 +1,12 @@
 -- A node's traces as data, and data as its traces.
-use Rattle.std.specs.Prelude.{◌≡◌, ◌≢◌, ℕ, false, ◌+◌, ◌<◌, if◌then◌else◌, List, [], ◌∷◌, ◌++◌, map, filter, length, slice_index_or, Option, Some, None}
+use Rattle.std.specs.Prelude.{◌≡◌, ◌≢◌, ℕ, ◌+◌, ◌<◌, if◌then◌else◌, true, List, [], ◌∷◌, ◌++◌, map, filter, length, slice_index_or, Option, Some, None}
 use Rattle.std.specs.List.{AllByRecursion, Contains, flat_map}
 use Rattle.fw_time.specs.Stamp.{Stamp}
 use Rattle.fw_frontier.specs.Front.{Front, inside}
 use Rattle.fw_flow.specs.declared.choice.Counted.{Counted}
 use Rattle.fw_flow.specs.declared.choice.Stamps.{Stamps}
 use Rattle.fw_flow.specs.Dataflow.{Dataflow, kind_of, sender, receiver, in_edges, out_edges, is_sequence_kind}
+use Rattle.fw_model.specs.Sending.{is_single_kind}
 use Rattle.fw_model.specs.EventStamps.{causes_of}
 use Rattle.fw_model.specs.Offers.{counted_on_edge, stamps_on}
 use Rattle.fw_progress.specs.declared.sent_tally.SentTally.{SentTally}
@@ -90,11 +91,11 @@ pub record AreDelivered (flow : Dataflow) (p : ℕ) (ms : List Counted) (old new
   pub here : (d : ℕ) → d < length flow.edges → receiver flow d ≡ p → AreTheSame (stamps_on d ms) (slice_index_or new d [])
   pub others : (d : ℕ) → receiver flow d ≢ p → slice_index_or new d [] ≡ slice_index_or old d []
 
--- The lists of the out-edges of node p are the causes of these messages, each of its edge, unless it is a sequence, and the others are
+-- The lists of the out-edges of node p are the causes of these messages, each of its edge, if it is of a single kind, and the others are
 -- as they were.
 pub record AreCausesOnEdges (flow : Dataflow) (p : ℕ) (ms : List Counted) (old new : List (List Stamp)) : Type 0 where
   pub one_each : length new ≡ length old
-  pub here : (e : ℕ) → e < length flow.edges → sender flow e ≡ p → is_sequence_kind (kind_of flow p) ≡ false
+  pub here : (e : ℕ) → e < length flow.edges → sender flow e ≡ p → is_single_kind (kind_of flow p) ≡ true
       → AreTheSame (causes_of (counted_on_edge e ms)) (slice_index_or new e [])
   pub others : (e : ℕ) → sender flow e ≢ p → slice_index_or new e [] ≡ slice_index_or old e []
 

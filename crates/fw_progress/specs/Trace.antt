@@ -8,9 +8,10 @@ use Rattle.fw_frontier.specs.Front.{Front}
 use Rattle.fw_flow.specs.declared.choice.Stamps.{Stamps}
 use Rattle.fw_flow.specs.declared.event.Event.{Event}
 use Rattle.fw_flow.specs.declared.event.Message.{Message}
-use Rattle.fw_flow.specs.Dataflow.{System, Dataflow, kind_of, policy_of, sender, receiver, is_sequence_kind, node_frontier, HasEpochs}
+use Rattle.fw_flow.specs.Dataflow.{System, Dataflow, kind_of, policy_of, sender, receiver, node_frontier, HasEpochs}
 use Rattle.fw_flow.specs.NodeFunction.{event_stamp, sent_by}
 use Rattle.fw_flow.specs.Projection.{events_at}
+use Rattle.fw_model.specs.Sending.{is_single_kind}
 use Rattle.fw_model.specs.Covers.{stamp_of_notice}
 use Rattle.fw_model.specs.Alike.{StandForCauses}
 use Rattle.fw_model.specs.EventStamps.{causes_in, base_of_sent, tells_sent, AreStampsIf}
@@ -67,7 +68,7 @@ pub record IsTraceIf (whole : Bool) (sys : System) (h : List Event) (p : ℕ) (b
   pub delivered : (d : ℕ) → d < length sys.flow.edges → receiver sys.flow d ≡ p
       → IsThinnedIf whole base (map (λ (m : Message). m.at) (delivered_messages h d)) (delivered_on traces d)
   pub notified : IsThinnedIf whole base (flat_map (stamp_of_notice p) h) (stamps_notified traces p)
-  pub sent : (e : ℕ) → e < length sys.flow.edges → sender sys.flow e ≡ p → is_sequence_kind (kind_of sys.flow p) ≡ false
+  pub sent : (e : ℕ) → e < length sys.flow.edges → sender sys.flow e ≡ p → is_single_kind (kind_of sys.flow p) ≡ true
       → StandForCauses sys.flow p (whole && tells_sent sys.flow p) (base_of_sent sys.flow p base) (causes_in (sent_messages sys h e)) (stamps_where_sent traces e)
   pub counted : counts_sent sys.flow p ≡ true → IsSentTally base (sent_by sys p (events_at sys.flow p h)) (counted_of traces p)
 
@@ -80,7 +81,7 @@ pub record IsTraceAmong (sys : System) (h : List Event) (p : ℕ) (traces : Trac
   pub delivered : (d : ℕ) → d < length sys.flow.edges → receiver sys.flow d ≡ p
       → AllByRecursion (Contains (map (λ (m : Message). m.at) (delivered_messages h d))) (delivered_on traces d)
   pub notified : AllByRecursion (Contains (flat_map (stamp_of_notice p) h)) (stamps_notified traces p)
-  pub sent : (e : ℕ) → e < length sys.flow.edges → sender sys.flow e ≡ p → is_sequence_kind (kind_of sys.flow p) ≡ false
+  pub sent : (e : ℕ) → e < length sys.flow.edges → sender sys.flow e ≡ p → is_single_kind (kind_of sys.flow p) ≡ true
       → AllByRecursion (Contains (causes_in (sent_messages sys h e))) (stamps_where_sent traces e)
 
 -- the stamps outside a base are among these
@@ -190,9 +191,9 @@ StandForManyMore at count old new =
     (base : Frontier) (all more : List Stamp) → length more ≡ count → AllByRecursion (λ s. s ≡ at) more → IsThinned base all old
     → IsThinned base (more ++ all) new
 
--- the same of the stamps at which node p sends, unless it is a sequence
+-- the same of the stamps at which node p sends, if it is of a single kind
 abbrev pub SentMore : Dataflow → ℕ → Stamp → ℕ → List Stamp → List Stamp → Type 0
-SentMore flow p at count old new = is_sequence_kind (kind_of flow p) ≡ false → StandForManyMore at count old new
+SentMore flow p at count old new = is_single_kind (kind_of flow p) ≡ true → StandForManyMore at count old new
 
 -- so many messages are counted more, where they are counted
 abbrev pub CountedMore : Dataflow → ℕ → Stamp → ℕ → SentTally → SentTally → Type 0

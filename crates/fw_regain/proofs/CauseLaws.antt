@@ -22,6 +22,8 @@ use Rattle.fw_flow.specs.Projection.{events_at}
 use Rattle.fw_flow.specs.WellFormed.{IsGroupSize}
 use Rattle.fw_flow.specs.declared.event.Event.TheVariants.{Inject, Deliver, Notify}
 use Rattle.fw_flow.proofs.Chains.{outer_greatest}
+use Rattle.fw_model.proofs.KindSorts.{single-no_sequence}
+use Rattle.fw_model.specs.Sending.{is_single_kind}
 use Rattle.fw_model.specs.EventStamps.{causes_in, causes_of, IsOfCause}
 use Rattle.fw_model.specs.History.{sent_messages, IsLegal, injected_count}
 use Rattle.fw_model.specs.Thinned.{IsBelowKept, IsThinnedIf}
@@ -168,7 +170,7 @@ record SendsAt (flow : Dataflow) (p : ℕ) (base : Frontier) (t u : Stamp) : Typ
 abbrev IsSentBy : Dataflow → ℕ → Frontier → Message → Type 0
 IsSentBy flow p base m = (t : Stamp) × SendsAt flow p base t m.at × (m.causes ≡ t ∷ [])
 
-each-sent : (sys : System) (p : ℕ) (base : Frontier) → is_sequence_kind (kind_of sys.flow p) ≡ false → (vs : List Event)
+each-sent : (sys : System) (p : ℕ) (base : Frontier) → is_single_kind (kind_of sys.flow p) ≡ true → (vs : List Event)
     → AllByRecursion (λ v. base (event_stamp v) ≡ true) vs → AllByRecursion (λ v. in_domain (bounds_of sys.flow p) (event_stamp v) ≡ true) vs
     → AllByRecursion (IsSentBy sys.flow p base) (sent_by sys p vs)
 each-sent sys p base n [] b d = tt
@@ -230,6 +232,7 @@ greatest_sent-stand sys h e base f tops w there n fr d b same g =
     let causes = causes_in ms in
     let ats = map (λ (m : Message). m.at) ms in
     let least = cause_told (kind_of flow p) in
+    let no = single-no_sequence (kind_of flow p) n in
     let down : (s t : Stamp) → leq s t ≡ true → base t ≡ true → base s ≡ true =
     λ s t l i. fr.closed s t (lesser-in_domain flow p s t l (fr.inside_domain t i)) l i in
     let sent = carried-each flow e (IsSentBy flow p base) (sent_by sys p (events_at flow p h)) (each-sent sys p base n (events_at flow p h) b d) in
@@ -242,7 +245,7 @@ greatest_sent-stand sys h e base f tops w there n fr d b same g =
     let cause : (u : Stamp) → Contains tops u → HasCause flow p base causes u =
     λ u c. each-contained (HasCause flow p base causes) u ats (greatest-there bounds f ats tops of same g u c) caused in
     let is : (t u : Stamp) → SendsAt flow p base t u → (send (least u) ≡ Some u) × (leq (least u) t ≡ true) =
-    λ t u s. send_stamps-tell flow p t u w (w.senders_declared e there) n s.of_domain s.sends in
+    λ t u s. send_stamps-tell flow p t u w (w.senders_declared e there) no s.of_domain s.sends in
     let inside_least : (t u : Stamp) → SendsAt flow p base t u → base (least u) ≡ true = λ t u s. down (least u) t (is t u s).1 s.inside in
     let backed : AllByRecursion (λ t. (base t ≡ true) × SendsAsOneIn send base causes t) (map least ats) =
     each-map (λ t. (base t ≡ true) × SendsAsOneIn send base causes t) least ats
@@ -283,7 +286,7 @@ greatest_sent-stand sys h e base f tops w there n fr d b same g =
             above = least a.above;
             is_kept = one-contained (least a.above) (map least tops) (one-mapped least a.above tops (contained-one a.above tops a.there));
             inside = inside_least top.0 a.above top.1;
-            below = sends-lesser flow p mine.0 top.0 u a.above n (mine.1).of_domain (top.1).of_domain (mine.1).sends (top.1).sends a.below;
+            below = sends-lesser flow p mine.0 top.0 u a.above no (mine.1).of_domain (top.1).of_domain (mine.1).sends (top.1).sends a.below;
           }));
     } in
     record {

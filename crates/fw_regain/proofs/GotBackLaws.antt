@@ -26,6 +26,7 @@ use Rattle.fw_flow.specs.NodeFunction.{event_stamp, sent_by}
 use Rattle.fw_flow.specs.Projection.{events_at, all_inside}
 use Rattle.fw_flow.specs.Restoring.{can_resend, way_of}
 use Rattle.fw_flow.specs.WellFormed.{IsWellFormedSystem}
+use Rattle.fw_model.specs.Sending.{is_single_kind}
 use Rattle.fw_model.specs.Carried.{carried}
 use Rattle.fw_model.specs.Covers.{covers_in, stamps_inside, stamps_from, stamp_of_notice, notified_inside, takes_its_cut, takes_its_notices, discarded_at}
 use Rattle.fw_model.specs.EventStamps.{StandForSent, StandForNumbered, causes_in, tells_sent}
@@ -208,7 +209,7 @@ received-back sys state p f r stamps w l takes d n b =
 
 -- The stamps stand for where a node sent.
 record IsSentBack (sys : System) (now : List Event) (p : ℕ) (base : Frontier) (stamps : Stamps) : Type 0 where
-  sent : is_sequence_kind (kind_of sys.flow p) ≡ false → (e : ℕ) → e < length sys.flow.edges → sender sys.flow e ≡ p
+  sent : is_single_kind (kind_of sys.flow p) ≡ true → (e : ℕ) → e < length sys.flow.edges → sender sys.flow e ≡ p
       → StandForSent true sys now p base e (counted_on_edge e stamps.sent)
   numbered : is_sequence_kind (kind_of sys.flow p) ≡ true → (e : ℕ) → e < length sys.flow.edges → sender sys.flow e ≡ p → StandForNumbered sys now e stamps.sent
 
@@ -260,7 +261,7 @@ sent-back sys state p f r stamps w reached l lazy received s b =
     record {
       sent = λ no e there q.
           let t = (b e there q).told no in
-          let stand = greatest_sent-stand sys now e g (front_of_edge (bounds_of flow (receiver flow e)) e r.discarded) t.0 w.flow there (ap (λ x. is_sequence_kind (kind_of flow x)) q ∙ no)
+          let stand = greatest_sent-stand sys now e g (front_of_edge (bounds_of flow (receiver flow e)) e r.discarded) t.0 w.flow there (ap (λ x. is_single_kind (kind_of flow x)) q ∙ no)
           (subst (λ x. IsFrontier (bounds_of flow x) g) (sym q) (frontier-closed (bounds_of flow p) f))
           (subst (AreEventsInDomain flow now) (sym q) of) (subst (λ x. AllByRecursion (λ v. g (event_stamp v) ≡ true) (events_at flow x now)) (sym q) inside)
           (read e there q) t.1 in

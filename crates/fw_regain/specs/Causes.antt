@@ -12,6 +12,7 @@ use Rattle.fw_flow.specs.Dataflow.{System, Dataflow, kind_of, sender, receiver, 
 use Rattle.fw_flow.specs.NodeFunction.{event_stamp}
 use Rattle.fw_flow.specs.Projection.{events_at}
 use Rattle.fw_flow.specs.WellFormed.{IsWellFormed}
+use Rattle.fw_model.specs.Sending.{is_single_kind}
 use Rattle.fw_model.specs.Carried.{carried_recs}
 use Rattle.fw_model.specs.EventStamps.{causes_in, StandForSent}
 use Rattle.fw_model.specs.History.{AreEventsInDomain, IsLegal, injected_count, sent_messages}
@@ -39,7 +40,7 @@ SendStampsTellCauses = (flow : Dataflow) (p : ℕ) (t u : Stamp) → IsWellForme
 -- was sent, from each base that has the events of the sender.
 abbrev pub GreatestSentStampsStandForSent : Type 0
 GreatestSentStampsStandForSent = (sys : System) (h : List Event) (e : ℕ) (base f : Frontier) (tops : List Stamp) → IsWellFormed sys.flow
-    → e < length sys.flow.edges → is_sequence_kind (kind_of sys.flow (sender sys.flow e)) ≡ false
+    → e < length sys.flow.edges → is_single_kind (kind_of sys.flow (sender sys.flow e)) ≡ true
     → IsFrontier (bounds_of sys.flow (sender sys.flow e)) base → AreEventsInDomain sys.flow h (sender sys.flow e)
     → AllByRecursion (λ v. base (event_stamp v) ≡ true) (events_at sys.flow (sender sys.flow e) h)
     → ((t : Stamp) → f t ≡ cover (bounds_of sys.flow (receiver sys.flow e)) (map (λ (m : Message). m.at) (sent_messages sys h e)) t)

@@ -11,6 +11,7 @@ use Rattle.fw_flow.specs.declared.event.Event.{Event}
 use Rattle.fw_flow.specs.declared.event.Message.{Message}
 use Rattle.fw_flow.specs.Dataflow.{System, Dataflow, bounds_of, is_sequence_kind, kind_of, node_frontier, policy_of, receiver, sender}
 use Rattle.fw_flow.specs.WellFormed.{IsWellFormedSystem}
+use Rattle.fw_model.specs.Sending.{is_single_kind}
 use Rattle.fw_model.specs.Covers.{covers_in, stamp_of_notice}
 use Rattle.fw_model.specs.EventStamps.{AreStampsIf, tells_sent}
 use Rattle.fw_model.specs.Filtering.{events_inside}
@@ -26,7 +27,7 @@ use Rattle.fw_regain.specs.Greatest.{AreGreatestIn}
 -- What was sent on edge e is got back: as the greatest stamps inside the cover, with the causes that they tell; of a sequence, as the
 -- greatest numbers.
 pub record IsSentGotBack (flow : Dataflow) (p : ℕ) (r : Recorded) (stamps : Stamps) (e : ℕ) : Type 0 where
-  pub told : is_sequence_kind (kind_of flow p) ≡ false → (tops : List Stamp)
+  pub told : is_single_kind (kind_of flow p) ≡ true → (tops : List Stamp)
       × AreGreatestIn (bounds_of flow (receiver flow e)) (front_of_edge (bounds_of flow (receiver flow e)) e r.discarded) tops
       × (counted_on_edge e stamps.sent ≡ map (message_of_told flow e) tops)
   pub numbered : is_sequence_kind (kind_of flow p) ≡ true

@@ -16,6 +16,7 @@ use Rattle.fw_flow.specs.NodeFunction.{event_node, event_stamp, sends, sent_by}
 use Rattle.fw_flow.specs.Projection.{events_at, first_coordinate}
 use Rattle.fw_flow.specs.WellFormed.{IsWellFormed}
 use Rattle.fw_flow.proofs.MessageLaws.{less-each, among-each}
+use Rattle.fw_model.proofs.KindSorts.{no_sequence-single}
 use Rattle.fw_model.specs.History.{sent_messages, delivered_messages, pending_messages, was_delivered_to, was_notified, IsLegal, IsEnabled}
 use Rattle.fw_model.proofs.CarriedLaws.{carried-each}
 use Rattle.fw_model.proofs.LegalLaws.{edge_domains, AreAllInDomain, legal-in_domain}
@@ -128,7 +129,7 @@ sent-before sys k p ungrouped out (v ∷ vs) d a =
     let l = a.0 in
     each-append Q (sends sys p vs v) (sent_by sys p vs)
     (each-weaker (λ (m : Message). (send_stamp_of_kind sys.flow kind (event_stamp v) ≡ Some m.at) × (m.causes ≡ event_stamp v ∷ [])) Q (sends sys p vs v)
-    (λ m c. let e = send-first sys.flow kind (ungrouped p) (event_stamp v) m.at i c.0 in omega arith) (sends-each sys p b.1 vs v))
+    (λ m c. let e = send-first sys.flow kind (ungrouped p) (event_stamp v) m.at i c.0 in omega arith) (sends-each sys p (no_sequence-single kind b.1) vs v))
     (sent-before sys k p ungrouped out vs d.1 a.1)
 
 at-before : (flow : Dataflow) (k p : ℕ) → is_of_numbers (domain_of flow p) ≡ false → (h : List Event) → AllByRecursion (IsBefore flow k) h

@@ -26,9 +26,9 @@ use Rattle.fw_flow.proofs.OutEdgeLaws.{out_edges-at, out_edges-from}
 use Rattle.fw_flow.proofs.SendStampLaws.{domain_length, entered_length}
 use Rattle.fw_model.specs.EventStamps.{tells_sent}
 use Rattle.fw_model.specs.Offers.{AreAtEdgeStamps, counted_on_edge, front_of_edge, stamps_on, stamps_on_from}
-use Rattle.fw_model.specs.Sending.{SendsByCount}
+use Rattle.fw_model.specs.Sending.{is_single_kind, SendsByCount}
 use Rattle.fw_model.proofs.ArrivalLaws.{in_edges-receive}
-use Rattle.fw_model.proofs.KindSorts.{is_sequence}
+use Rattle.fw_model.proofs.KindSorts.{single-no_sequence, is_sequence}
 use Rattle.fw_model.proofs.DomainLaws.{edge-bounds}
 use Rattle.fw_regain.specs.Causes.{cause_told, message_of_told}
 use Rattle.fw_regain.specs.GotBack.{AreGotBack, IsSentGotBack}
@@ -230,12 +230,12 @@ told-cause : (kind : Kind) (u : Stamp) → is_sequence_kind kind ≡ false → c
 told-cause Sequence u k = absurd (cc)
 told-cause kind u k = refl
 
-told-messages : (flow : Dataflow) (p e : ℕ) → sender flow e ≡ p → is_sequence_kind (kind_of flow p) ≡ false → (tops : List Stamp)
+told-messages : (flow : Dataflow) (p e : ℕ) → sender flow e ≡ p → is_single_kind (kind_of flow p) ≡ true → (tops : List Stamp)
     → map (sent_at (kind_of flow p) e) tops ≡ map (message_of_told flow e) tops
 told-messages flow p e s k [] = refl
 told-messages flow p e s k (u ∷ us) =
     ap (λ (c : Stamp). record { edge = e; at = u; causes = c ∷ []; count = 1 } ∷ map (sent_at (kind_of flow p) e) us)
-    (told-cause (kind_of flow p) u k ∙ ap (λ q. cause_told (kind_of flow q) u) (sym s))
+    (told-cause (kind_of flow p) u (single-no_sequence (kind_of flow p) k) ∙ ap (λ q. cause_told (kind_of flow q) u) (sym s))
     ∙ ap (λ ms. message_of_told flow e u ∷ ms) (told-messages flow p e s k us)
 
 -- of a sequence each message is from its first epoch, which is a stamp of it

@@ -210,25 +210,26 @@ carried-by small family other of_edge each es made h = same es ∙ bags-by small
 
 pub nodes-hear : NodesHearTheSame
 nodes-hear small large of_node of_edge x w family other f g p there whole =
-    let again = x.nodes_again p there in let heard = by (of_node q) again.2 (x.nodes q) in (q, again.1, heard.0, heard.1)
+    let again = x.nodes_again p there in let heard = by (of_node q) refl again.2 (x.nodes q) in (q, again.1, heard.0, heard.1, heard.2)
   where
     q : ℕ
     q = (x.nodes_again p there).0
 
-    by : (origin : NodeOrigin) → SendsFor p origin → IsNodeOf small large of_edge q origin
-        → (kind_of large.flow q ≡ kind_of small.flow p) × (map other (in_edges large.flow q) ≡ map family (in_edges small.flow p))
-    by (Same r) s n = (
+    by : (origin : NodeOrigin) → of_node q ≡ origin → SendsFor p origin → IsNodeOf small large of_edge q origin
+        → (of_node q ≡ Same p) × (kind_of large.flow q ≡ kind_of small.flow p) × (map other (in_edges large.flow q) ≡ map family (in_edges small.flow p))
+    by (Same r) e s n = (
+      e ∙ ap Same s,
       n.0 ∙ ap (kind_of small.flow) s,
       carried-by small family other of_edge (denotation-expanded small large of_node of_edge x w family other f g) (in_edges large.flow q) (map Whole (in_edges small.flow r)) n.4
           ∙ sym (through (bag_of_origin small family) Whole (in_edges small.flow r)) ∙ ap (λ r. map family (in_edges small.flow r)) s,
     )
-    by (Replica r part) s n = absurd s
-    by (Gathered r) s n = absurd (true≢false (sym n.3 ∙ ap (λ r. may_split (kind_of small.flow r)) s ∙ whole))
+    by (Replica r part) e s n = absurd s
+    by (Gathered r) e s n = absurd (true≢false (sym n.3 ∙ ap (λ r. may_split (kind_of small.flow r)) s ∙ whole))
 
 pub edges-carry : EdgesCarryTheSame
 edges-carry small large of_node of_edge x w family other f g d there = elim (x.edges_again d there) [
-  | inl one ↦ inl (one.0, one.1, each one.0 ∙ ap (bag_of_origin small family) one.2)
-  | inr parts ↦ inr (parts.1, parts.2, ap in_order (flat parts.1 (map (PartOf d) (parts_to parts.0)) parts.3 ∙ flat-parts (parts_to parts.0)) ∙ parts-make parts.0 (family d))
+  | inl one ↦ inl (one.0, one.1, one.2, each one.0 ∙ ap (bag_of_origin small family) one.2)
+  | inr parts ↦ inr (parts.0, parts.1, parts.2, parts.3, ap in_order (flat parts.1 (map (PartOf d) (parts_to parts.0)) parts.3 ∙ flat-parts (parts_to parts.0)) ∙ parts-make parts.0 (family d))
 ]
   where
     each : (e : ℕ) → other e ≡ bag_of_origin small family (of_edge e)

@@ -16,6 +16,8 @@ use Rattle.fw_flow.specs.Declaring.{Declared}
 use Rattle.fw_flow.specs.Expand.{expand}
 use Rattle.fw_flow.specs.Raw.{flow_of_declarations}
 use Rattle.fw_flow.specs.WellFormed.{IsClosedWalk, IsWalk, IsWellFormed}
+use Rattle.fw_split.specs.Exact.{IsExactExpansion}
+use Rattle.fw_split.specs.Expansion.{EdgeOrigin, NodeOrigin}
 use Rattle.fw_split.specs.SplitTotal.{SplitTotalExpands, given_by_name, split_total}
 use Rattle.fw_split.specs.Unsplit.{AreAsWritten, HaveSameBatches, unsplit}
 use Rattle.fw_split.proofs.ExpandsLaws.{declarations-expand}
@@ -146,7 +148,16 @@ checked = record {
 }
 
 pub split_total-expands : SplitTotalExpands
-split_total-expands given none =
-    let small = flow_of_declarations (unsplit split_total) in
-    let large = flow_of_declarations (expand split_total) in
-    declarations-expand split_total (given_by_name given small) (given_by_name given large) written refl checked (same-named given none small large)
+split_total-expands = (written, checked, each)
+  where
+    small : Dataflow
+    small = flow_of_declarations (unsplit split_total)
+
+    large : Dataflow
+    large = flow_of_declarations (expand split_total)
+
+    each : (given : List ℕ → List (List Rec)) → given [] ≡ [] → HaveSameBatches (given_by_name given small) (given_by_name given large)
+        × ((of_node : ℕ → NodeOrigin) × (of_edge : ℕ → EdgeOrigin) × IsExactExpansion (given_by_name given small) (given_by_name given large) of_node of_edge)
+    each given none =
+        let same = same-named given none small large in
+        (same, declarations-expand split_total (given_by_name given small) (given_by_name given large) written refl checked same)

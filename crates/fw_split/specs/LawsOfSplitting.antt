@@ -16,7 +16,7 @@ use Rattle.fw_flow.specs.WellFormed.{IsWellFormed}
 use Rattle.fw_flow.specs.WholeBags.{Timed, in_order, outputs_of_kind}
 use Rattle.fw_model.specs.Denotation.{Family, IsDenotation}
 use Rattle.fw_split.specs.Exact.{IsExactExpansion}
-use Rattle.fw_split.specs.Expansion.{EdgeOrigin, NodeOrigin, IsExpansion, parts_to, timed_of_part, bag_of_origin}
+use Rattle.fw_split.specs.Expansion.{EdgeOrigin, Whole, PartOf, NodeOrigin, Same, IsExpansion, parts_to, timed_of_part, bag_of_origin}
 use Rattle.fw_split.specs.Unsplit.{AreNewInTurn, AreAsWritten, HaveSameBatches, unsplit}
 
 -- A node of a kind that may be split, to which of each bag a part comes, sends this part of what it sends where all comes.
@@ -39,24 +39,26 @@ DenotationOfExpansion = (small large : System) (of_node : ℕ → NodeOrigin) (o
     → IsWellFormed large.flow → (family expanded : Family) → IsDenotation small family → IsDenotation large expanded
     → (e : ℕ) → expanded e ≡ bag_of_origin small family (of_edge e)
 
--- A node of a kind that may not be split, an output among them, comes again, and its edges carry the same.
+-- A node of a kind that may not be split, an output among them, comes again as it is, and its edges carry the same.
 abbrev pub NodesHearTheSame : Type 0
 NodesHearTheSame = (small large : System) (of_node : ℕ → NodeOrigin) (of_edge : ℕ → EdgeOrigin) → IsExpansion small large of_node of_edge
     → IsWellFormed large.flow → (family expanded : Family) → IsDenotation small family → IsDenotation large expanded
     → (p : ℕ) → p < length small.flow.nodes → may_split (kind_of small.flow p) ≡ false
-    → (q : ℕ) × (q < length large.flow.nodes) × (kind_of large.flow q ≡ kind_of small.flow p)
+    → (q : ℕ) × (q < length large.flow.nodes) × (of_node q ≡ Same p) × (kind_of large.flow q ≡ kind_of small.flow p)
     × (map expanded (in_edges large.flow q) ≡ map family (in_edges small.flow p))
 
--- an edge of the expansion carries this bag, or edges of it together do
-abbrev pub IsCarriedAgain : Dataflow → Family → List Timed → Type 0
-IsCarriedAgain large expanded bag = ((e : ℕ) × (e < length large.edges) × (expanded e ≡ bag))
-    ⊎ ((es : List ℕ) × AllByRecursion (λ e. e < length large.edges) es × (in_order (flat_map expanded es) ≡ in_order bag))
+-- edge d comes again and carries this bag, or comes in parts that together do
+abbrev pub IsCarriedAgain : Dataflow → (ℕ → EdgeOrigin) → Family → ℕ → List Timed → Type 0
+IsCarriedAgain large of_edge expanded d bag =
+    ((e : ℕ) × (e < length large.edges) × (of_edge e ≡ Whole d) × (expanded e ≡ bag))
+    ⊎ ((last : ℕ) × (es : List ℕ) × AllByRecursion (λ e. e < length large.edges) es × (map of_edge es ≡ map (PartOf d) (parts_to last))
+    × (in_order (flat_map expanded es) ≡ in_order bag))
 
--- What an edge carries without the word, one of the expansion carries, or edges of it in parts: those out of a split node too.
+-- What an edge carries without the word, it carries in the expansion, or its parts together do: an edge out of a split node too.
 abbrev pub EdgesCarryTheSame : Type 0
 EdgesCarryTheSame = (small large : System) (of_node : ℕ → NodeOrigin) (of_edge : ℕ → EdgeOrigin) → IsExpansion small large of_node of_edge
     → IsWellFormed large.flow → (family expanded : Family) → IsDenotation small family → IsDenotation large expanded
-    → (d : ℕ) → d < length small.flow.edges → IsCarriedAgain large.flow expanded (family d)
+    → (d : ℕ) → d < length small.flow.edges → IsCarriedAgain large.flow of_edge expanded d (family d)
 
 -- Where the dataflow of an exact expansion is well formed, that of the flow without the word is.
 abbrev pub WithoutTheWordIsWellFormed : Type 0

@@ -4,13 +4,14 @@ use Rattle.fw_bag.specs.declared.rec.Rec.{Rec}
 use Rattle.fw_flow.specs.declared.kind.Kind.TheVariants.{Input, OutputEpoch, Total}
 use Rattle.fw_flow.specs.declared.kind.Policy.TheVariants as policy
 use Rattle.fw_flow.specs.declared.raw.Declaration.TheVariants.{Node, Edge}
+use Rattle.fw_flow.specs.Check.{IsChecked}
 use Rattle.fw_flow.specs.Dataflow.{Dataflow, System}
 use Rattle.fw_flow.specs.Declaring.{Declared}
 use Rattle.fw_flow.specs.Expand.{expand}
 use Rattle.fw_flow.specs.Raw.{flow_of_declarations}
 use Rattle.fw_split.specs.Exact.{IsExactExpansion}
 use Rattle.fw_split.specs.Expansion.{EdgeOrigin, NodeOrigin}
-use Rattle.fw_split.specs.Unsplit.{unsplit}
+use Rattle.fw_split.specs.Unsplit.{AreAsWritten, HaveSameBatches, unsplit}
 
 -- its declarations
 abbrev pub split_total : List Declared
@@ -33,7 +34,8 @@ total_as_one given = given_by_name given (flow_of_declarations (unsplit split_to
 abbrev pub total_in_two : (List ℕ → List (List Rec)) → System
 total_in_two given = given_by_name given (flow_of_declarations (expand split_total))
 
--- With whatever batches, the second is an exact expansion of the first: what the law asks for can be met.
+-- It meets what `DeclarationsExpand` asks for, with whatever batches: so the second is an exact expansion of the first.
 abbrev pub SplitTotalExpands : Type 0
-SplitTotalExpands = (given : List ℕ → List (List Rec)) → given [] ≡ []
-    → (of_node : ℕ → NodeOrigin) × (of_edge : ℕ → EdgeOrigin) × IsExactExpansion (total_as_one given) (total_in_two given) of_node of_edge
+SplitTotalExpands = AreAsWritten split_total × IsChecked (expand split_total) (flow_of_declarations (expand split_total))
+    × ((given : List ℕ → List (List Rec)) → given [] ≡ [] → HaveSameBatches (total_as_one given) (total_in_two given)
+    × ((of_node : ℕ → NodeOrigin) × (of_edge : ℕ → EdgeOrigin) × IsExactExpansion (total_as_one given) (total_in_two given) of_node of_edge))

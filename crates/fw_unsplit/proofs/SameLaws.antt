@@ -1,5 +1,5 @@
 -- The flow without the word denotes at its outputs what its expansion acknowledges.
-use Rattle.std.proofs.Common.{◌≡◌, inl, inr, ℕ, ◌<◌, true, List, [], ◌∷◌, length, map, refl, sym, ap, ◌∙◌, subst, arith}
+use Rattle.std.proofs.Common.{◌≡◌, inl, inr, ℕ, ◌^◌, ◌<◌, ◌≤◌, true, false, List, [], ◌∷◌, length, map, refl, sym, ap, ◌∙◌, subst, arith}
 use Rattle.std.proofs.lemmas.Bool.{cases_lt, true≢false}
 use Rattle.std.proofs.lemmas.List.{get_or_past}
 use Rattle.std.proofs.lemmas.List.FromFn.{get_or-map-range_with_len}
@@ -8,6 +8,7 @@ use Rattle.std.specs.Str.{bytes_eq}
 use Rattle.fw_lemmas.proofs.Each.{each-both, each-weaker}
 use Rattle.fw_time.specs.Stamp.{same}
 use Rattle.fw_bag.specs.declared.rec.Rec.{Rec}
+use Rattle.fw_lines.specs.Batches.{IsBatch}
 use Rattle.fw_lines.specs.Inputs.{batches_said_of}
 use Rattle.fw_lines.specs.Lines.{Said, said_lines}
 use Rattle.fw_lines.proofs.GivenLaws.{sound-batches}
@@ -36,7 +37,8 @@ use Rattle.fw_split.proofs.ExactWalks.{again-into}
 use Rattle.fw_split.proofs.ExpandsLaws.{declarations-expand}
 use Rattle.fw_split.proofs.ExpansionLaws.{denotation-expanded, expansion-denotes}
 use Rattle.fw_command.specs.Texts.{spelled_system}
-use Rattle.fw_unsplit.specs.WithoutTheWord.{AcceptedWithoutTheWord, DenotesTheSame, HearTheSame, IsDenotedByName, plain_flow}
+use Rattle.fw_unsplit.specs.WithoutTheWord.{AcceptedWithoutTheWord, DeclaredWithoutTheWord, DenotesTheSame, HearTheSame, IsDenotedByName, plain_flow}
+use Rattle.fw_split.specs.Unsplit.{unsplit}
 use Rattle.fw_unsplit.proofs.InputLaws.{batches-agree, inputs-agree}
 use Rattle.fw_unsplit.proofs.SourceLaws.{HasNamesOnce, named-once}
 use Rattle.fw_unsplit.proofs.WrittenLaws.{are-written, checked-plain}
@@ -221,6 +223,8 @@ none-given f g p q = get_or_past (given_to g []).batches q [] (omega arith) ∙ 
 pub accepted-plain : AcceptedWithoutTheWord
 accepted-plain texts flow accepted inputs = record {
   checked = checked-plain raw whole;
+  text = λ text sound said. record { sound = sound; declared = unsplit raw; written = said; checked = checked-plain raw whole };
+  no_replicas = bare.2.expansion.whole;
   inputs = read;
   same = denotes-same small large of_node of_edge exact once small-well large-well;
 }
@@ -288,3 +292,57 @@ accepted-plain texts flow accepted inputs = record {
 
     exact : IsExactExpansion small large of_node of_edge
     exact = with-batches plain flow small.batches large.batches of_node of_edge bare.2 alike
+
+-- ---- declarations in code
+
+past-none : (sys : System) (p : ℕ) → length sys.batches ≤ p → batches_of sys p ≡ []
+unfolding batches_of
+past-none sys p past = get_or_past sys.batches p [] past
+
+pub declared-plain : DeclaredWithoutTheWord
+declared-plain raw small large written made checked alike each w = denotes-same small large of_node of_edge exact once small-well w
+  where
+    found : (of_node : ℕ → NodeOrigin) × (of_edge : ℕ → EdgeOrigin) × IsExactExpansion small large of_node of_edge
+    found = declarations-expand raw small large written made checked alike
+
+    of_node : ℕ → NodeOrigin
+    of_node = found.0
+
+    of_edge : ℕ → EdgeOrigin
+    of_edge = found.1
+
+    exact : IsExactExpansion small large of_node of_edge
+    exact = found.2
+
+    once : HasNamesOnce large.flow
+    once = subst HasNamesOnce (sym checked.value) (subst (IsDistinct bytes_eq) (names_of_flow (expand raw)).0 (distinct-nodes raw written.names written.nodes))
+
+    no_input : (p q : ℕ) (origin : NodeOrigin) → SendsFor p origin → IsNodeOf small large of_edge q origin
+        → is_input_kind (kind_of small.flow p) ≡ false → is_input_kind (kind_of large.flow q) ≡ false
+    no_input p q (Same r) s n h = ap is_input_kind (n.0 ∙ ap (kind_of small.flow) s) ∙ h
+    no_input p q (Replica r part) s n h = absurd s
+    no_input p q (Gathered r) s n h = ap is_input_kind n.0
+
+    -- a node has the batches of one of the expansion, which is an input only if it is
+    given : (p : ℕ) → (q : ℕ) × (batches_of large q ≡ batches_of small p)
+        × (is_input_kind (kind_of small.flow p) ≡ false → is_input_kind (kind_of large.flow q) ≡ false)
+    given p = elim (cases_lt p (length small.flow.nodes)) [
+      | inl lt ↦
+          let again = exact.expansion.nodes_again p lt in
+          (again.0, alike p again.0 (exact.named p again.0 again.1 again.2), no_input p again.0 (of_node again.0) again.2 (exact.expansion.nodes again.0))
+      | inr past ↦
+          let q = length large.flow.nodes in (
+            q,
+            past-none large q (omega (arith, w.one_each)) ∙ sym (past-none small p (omega (arith, each, past))),
+            λ h. ap is_input_kind (kind-past large.flow q (omega arith)),
+          )
+    ]
+
+    small-well : IsWellFormedSystem small
+    small-well = record {
+      flow = without-the-word small large of_node of_edge exact w.flow;
+      one_each = each;
+      of_inputs = λ p h. let g = given p in sym g.1 ∙ w.of_inputs g.0 (g.2 h);
+      few = λ p. let g = given p in subst (λ b. length b ≤ 2 ^ 20) g.1 (w.few g.0);
+      batches = λ p. let g = given p in subst (AllByRecursion IsBatch) g.1 (w.batches g.0);
+    }

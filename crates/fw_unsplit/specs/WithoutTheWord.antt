@@ -5,16 +5,19 @@ use Rattle.fw_flow.specs.Check.{IsChecked}
 use Rattle.fw_flow.specs.Dataflow.{Dataflow, System, node_at, kind_of, receiver, in_edges, is_output_kind}
 use Rattle.fw_flow.specs.Declaring.{Declared}
 use Rattle.fw_flow.specs.Expand.{expand}
+use Rattle.fw_flow.specs.Flow.{HasNoParts}
 use Rattle.fw_flow.specs.Raw.{flow_of_declarations}
 use Rattle.fw_flow.specs.Sources.{AreInputsOf}
 use Rattle.fw_flow.specs.declared.step.Step.{Step}
 use Rattle.fw_flow.specs.WellFormed.{IsWellFormedSystem}
-use Rattle.fw_flow_text.specs.Grammar.{IsAcceptedFlow}
+use Rattle.fw_flow_text.specs.Grammar.{Declare, IsAcceptedFlow, flow_rules}
 use Rattle.fw_model.specs.Denotation.{Family, IsDenotation, bag_at}
 use Rattle.fw_model.specs.Machine.{Machine, first_state}
 use Rattle.fw_model.specs.Steps.{Effect, silent, lows, cuts, acked, idle, Outcome, did, Run}
 use Rattle.fw_headline.specs.Right.{RunsRight}
-use Rattle.fw_split.specs.Unsplit.{unsplit}
+use Rattle.fw_lines.specs.Faults.{BreaksNone}
+use Rattle.fw_lines.specs.Lines.{said_lines}
+use Rattle.fw_split.specs.Unsplit.{AreAsWritten, HaveSameBatches, unsplit}
 use Rattle.fw_generate.specs.Texts.{Texts}
 use Rattle.fw_command.specs.Texts.{spelled_system}
 
@@ -63,6 +66,10 @@ pub record DenotesTheSame (plain sys : System) : Type 0 where
 -- denotes at its outputs what is acknowledged with it.
 pub record IsAcceptedWithoutTheWord (declared : List Declared) (texts : Texts) (flow : Dataflow) : Type 0 where
   pub checked : IsChecked (expand (unsplit declared)) (plain_flow declared)
+  -- so is each text whose lines, of which none breaks a rule, say these declarations without the word
+  pub text : (text : List ℕ) → BreaksNone flow_rules text → Declare (said_lines text) (unsplit declared) → IsAcceptedFlow text (plain_flow declared)
+  -- there no node is a replica
+  pub no_replicas : HasNoParts (plain_flow declared)
   pub inputs : AreInputsOf (plain_flow declared) texts.inputs
   pub same : DenotesTheSame (spelled_system (plain_flow declared) texts) (spelled_system flow texts)
 
@@ -70,3 +77,9 @@ pub record IsAcceptedWithoutTheWord (declared : List Declared) (texts : Texts) (
 abbrev pub AcceptedWithoutTheWord : Type 0
 AcceptedWithoutTheWord = (texts : Texts) (flow : Dataflow) → (accepted : IsAcceptedFlow texts.flow flow) → AreInputsOf flow texts.inputs
     → IsAcceptedWithoutTheWord accepted.declared texts flow
+
+-- The same of declarations in code, with a name of its own each: where their expansion is checked and has batches, their flow without the
+-- word, with the same batches, denotes at its outputs what the expansion acknowledges.
+abbrev pub DeclaredWithoutTheWord : Type 0
+DeclaredWithoutTheWord = (raw : List Declared) (plain sys : System) → AreAsWritten raw → plain.flow ≡ plain_flow raw → IsChecked (expand raw) sys.flow
+    → HaveSameBatches plain sys → length plain.batches ≡ length plain.flow.nodes → IsWellFormedSystem sys → DenotesTheSame plain sys

@@ -1,4 +1,4 @@
--- An expansion that has no more than it must: what the flow without the word is, can be told from it.
+-- An expansion of which it is said what each node is made of: so what the flow without the word is, can be told from it.
 use Rattle.std.specs.Prelude.{◌≡◌, ℕ, ◌<◌, length}
 use Rattle.fw_flow.specs.Dataflow.{System, node_at}
 use Rattle.fw_split.specs.Expansion.{EdgeOrigin, NodeOrigin, Same, Replica, Gathered, SendsFor, IsExpansion}
@@ -9,8 +9,8 @@ node_of_origin (Same p) = p
 node_of_origin (Replica p part) = p
 node_of_origin (Gathered p) = p
 
--- The second system is an expansion of the first and has no more than it must: each of its nodes is made of a node that the first has,
--- one alone sends what a node sends, and it has the name of that node.
+-- The second system is an expansion of the first in which each node is made of a node that the first has, one alone sends what a node
+-- sends, and it has the name of that node.
 pub record IsExactExpansion (small large : System) (of_node : ℕ → NodeOrigin) (of_edge : ℕ → EdgeOrigin) : Type 0 where
   pub expansion : IsExpansion small large of_node of_edge
   pub within : (q : ℕ) → q < length large.flow.nodes → node_of_origin (of_node q) < length small.flow.nodes

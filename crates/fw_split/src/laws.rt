@@ -42,7 +42,7 @@ pub fn names_new_in_turn()
     ensures { NewNamesAreWritten }
 {}
 
-/// What declarations expand to is an expansion of them without the word, and no more than it must be.
+/// What declarations expand to is an exact expansion of them without the word.
 pub fn declarations_expand()
     ensures { DeclarationsExpand }
 {}

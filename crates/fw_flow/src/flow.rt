@@ -1,5 +1,5 @@
 //! A well-formed dataflow, and what is looked up in it.
-ghost use Rattle.std.specs.Prelude.{◌≡◌, ◌<◌, length, map, MatchResult, IfOk, true};
+ghost use Rattle.std.specs.Prelude.{◌≡◌, ◌<◌, length, map, MatchResult, IfOk, true, false};
 ghost use Rattle.fw_lines.specs.Faults.{IfRefused};
 ghost use Rattle.fw_flow.specs.Dataflow.{kind_of, policy_of, sender, receiver, in_edges, out_edges, domain_of, bounds_of, greatest_of, max_of, node_at};
 ghost use Rattle.fw_flow.specs.Flow.{AreBoundsOf, HasNoParts};
@@ -288,7 +288,8 @@ impl Flow {
 
     // The bounds of the domain of each node, in order. The error is want of memory.
     fn each_bounds(&self, alloc: Global) -> Result<Vec<Bounds>, AllocError>
-        ensures { IfOk result (λ each. AreBoundsOf self.now each.items) }
+        ensures one_each { IfOk result (λ each. length each.items ≡ length self.now.nodes) }
+        ensures bounds { IfOk result (λ each. AreBoundsOf self.now each.items) }
     {
         let mut each = Vec::new(alloc);
         for place in 0..self.nodes.len() {
@@ -300,7 +301,8 @@ impl Flow {
     // Whether no node is a replica, so that the recs of all keys come to each.
     #[tactic(auto, using(crate::proofs::NoPartLaws::no_parts_more, crate::proofs::NoPartLaws::no_parts_all))]
     fn has_no_parts(&self) -> bool
-        ensures { result ≡ true → HasNoParts self.now }
+        ensures none { result ≡ true → HasNoParts self.now }
+        ensures some { result ≡ false → HasNoParts self.now → ⊥ }
     {
         for place in 0..self.nodes.len() {
             if self.part(NodeId::at(place as u32)).is_some() {

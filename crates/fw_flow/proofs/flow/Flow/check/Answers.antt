@@ -15,6 +15,6 @@ invariant_of-flow c =
       names_of_edges = before.names_of_edges;
       edges_in = before.edges_in;
       edges_out = before.edges_out;
-      bounds_kept = subst (λ flow. AreBoundsOf flow bounds) (sym c.flow.view_is) c.in_ok-bounds.ensures;
-      none_split = λ h. subst HasNoParts (sym c.flow.view_is) (c.has_no_parts-unsplit.ensures h);
+      bounds_kept = subst (λ flow. AreBoundsOf flow bounds) (sym c.flow.view_is) c.in_ok-bounds.ensures.bounds;
+      none_split = λ h. subst HasNoParts (sym c.flow.view_is) (c.has_no_parts-unsplit.ensures.none h);
     }

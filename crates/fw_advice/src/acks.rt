@@ -52,8 +52,10 @@ impl Acks {
         if !self.is_whole {
             return None;
         }
-        let found = self.counts.iter().find(|it| it.output.as_slice() == output);
-        Some(found.map_or(0, |it| it.epochs))
+        match self.place_of(output) {
+            Some(place) => Some(self.counts.get(place)?.epochs),
+            None => Some(0),
+        }
     }
 
     // Counts what a line acknowledges.
@@ -77,9 +79,12 @@ impl Acks {
     }
 
     fn place_of(&self, output: &[u8]) -> Option<usize> {
-        self.counts
-            .iter()
-            .position(|it| it.output.as_slice() == output)
+        for (place, it) in self.counts.iter().enumerate() {
+            if it.output.as_slice() == output {
+                return Some(place);
+            }
+        }
+        None
     }
 
     fn add_one(&mut self, place: usize) {

@@ -1,6 +1,7 @@
 //! Walks through a flow: what is reached from where.
 use crate::declared::{Declarations, Domain, NodeLine, is_same};
 use crate::flow_rules::add_shown;
+use crate::word::is_word;
 use std::alloc::{AllocError, Global};
 
 /// A flow has at most so many nodes; one of more is not searched.
@@ -86,7 +87,12 @@ pub(crate) fn is_in(places: &[bool], place: usize) -> bool {
 
 // The place of a node of this name.
 fn place_of(all: &Declarations<'_>, name: &[u8]) -> Option<usize> {
-    all.nodes.iter().position(|node| node.name.bytes == name)
+    for (place, node) in all.nodes.iter().enumerate() {
+        if node.name.bytes == name {
+            return Some(place);
+        }
+    }
+    None
 }
 
 /// Which nodes go round where they may not (F6), in words.
@@ -183,7 +189,7 @@ fn inside_told(
 
 // Whether a node stands in a loop or in one within it, and is not its feedback.
 fn stays_in<'a>(all: &Declarations<'a>, node: NodeLine<'a>, name: &[u8]) -> bool {
-    if node.kind == b"feedback".as_slice() && node.of.is_some_and(|of| of.bytes == name) {
+    if node.kind == b"feedback".as_slice() && is_word(node.of, name) {
         return false;
     }
     let mut at = all.domain(node);

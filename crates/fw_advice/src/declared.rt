@@ -86,23 +86,32 @@ impl<'a> Declarations<'a> {
 
     /// The node of a name.
     pub(crate) fn node(&self, name: &[u8]) -> Option<NodeLine<'a>> {
-        self.nodes
-            .iter()
-            .find(|node| node.name.bytes == name)
-            .copied()
+        for node in self.nodes.iter() {
+            if node.name.bytes == name {
+                return Some(*node);
+            }
+        }
+        None
     }
 
     /// The loop of a name.
     pub(crate) fn a_loop(&self, name: &[u8]) -> Option<LoopLine<'a>> {
-        self.loops.iter().find(|it| it.name.bytes == name).copied()
+        for it in self.loops.iter() {
+            if it.name.bytes == name {
+                return Some(*it);
+            }
+        }
+        None
     }
 
     /// The edge of a name.
     pub(crate) fn edge(&self, name: &[u8]) -> Option<EdgeLine<'a>> {
-        self.edges
-            .iter()
-            .find(|edge| edge.name.bytes == name)
-            .copied()
+        for edge in self.edges.iter() {
+            if edge.name.bytes == name {
+                return Some(*edge);
+            }
+        }
+        None
     }
 
     /// The domain in which a loop is entered.

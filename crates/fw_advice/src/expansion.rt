@@ -101,25 +101,38 @@ fn add_node(
         return add_words(words, text);
     };
     let name = str_of(name);
-    let kind = str_of(node.kind);
-    let policy = str_of(node.last.bytes);
     for place in 0..count {
-        write!(text, "node {name}.{place} {kind} ")?;
-        add_loop(node, text)?;
-        write!(text, "policy {policy}\n")?;
+        write!(text, "node {name}.{place} ")?;
+        add_kind(str_of(node.kind), node.of, str_of(node.last.bytes), text)?;
     }
-    write!(text, "node {name} concat ")?;
-    add_loop(node, text)?;
-    text.push_str("policy none\n")?;
+    write!(text, "node {name} ")?;
+    add_kind("concat", node.of, "none", text)?;
+    add_out_edges(name, count, text)
+}
+
+// Adds the edges from the replicas of a node to the one that joins them.
+fn add_out_edges(name: &str, count: usize, text: &mut String) -> Result<(), AllocError> {
     for place in 0..count {
         write!(text, "edge {name}.out.{place} {name}.{place} {name}\n")?;
     }
     Ok(())
 }
 
+// Adds what a node's line says behind the name: its kind, its loop if it stands in one, and its policy.
+fn add_kind(
+    kind: &str,
+    of: Option<Word<'_>>,
+    policy: &str,
+    text: &mut String,
+) -> Result<(), AllocError> {
+    write!(text, "{kind} ")?;
+    add_loop(of, text)?;
+    write!(text, "policy {policy}\n")
+}
+
 // Adds the loop in which a node stands.
-fn add_loop(node: NodeLine<'_>, text: &mut String) -> Result<(), AllocError> {
-    let Some(of) = node.of else {
+fn add_loop(of: Option<Word<'_>>, text: &mut String) -> Result<(), AllocError> {
+    let Some(of) = of else {
         return Ok(());
     };
     let of = str_of(of.bytes);

@@ -3,7 +3,8 @@ use crate::declared::{Declarations, Domain, EdgeLine, LoopLine, NodeLine, is_sam
 use crate::expansion::Sizes;
 use crate::shown::Shown;
 use crate::slip::{Slip, add_near_name};
-use crate::slot::{is_large, is_one_of};
+use crate::slot::is_large;
+use crate::step_rules::{Sort, names_of};
 use crate::word::{Word, str_of};
 use fw_lines::{Number, number};
 use std::alloc::{AllocError, Global};
@@ -28,18 +29,25 @@ fn write_loop<W: fmt::Write>(f: &mut fmt::Formatter<W>, name: &[u8]) -> fmt::Res
 
 /// The first number from 2^64 on.
 pub(crate) fn large_slip<'a>(alloc: Global, words: &[Word<'a>]) -> Found<'a> {
-    match words.iter().find(|word| has_large(word.bytes)) {
-        Some(word) => Ok(Some(Slip::at(
-            *word,
-            format!(in alloc; "expected a number up to 18446744073709551615 (2^64 - 1)")?,
-        ))),
-        None => Ok(None),
+    for word in words {
+        if has_large(word.bytes) {
+            return Ok(Some(Slip::at(
+                *word,
+                format!(in alloc; "expected a number up to 18446744073709551615 (2^64 - 1)")?,
+            )));
+        }
     }
+    Ok(None)
 }
 
 // Whether a word, or a part of it before or behind a colon, is a number from 2^64 on.
 fn has_large(word: &[u8]) -> bool {
-    word.split(|byte| *byte == b':').any(|part| is_large(part))
+    for part in word.split(|byte| *byte == b':') {
+        if is_large(part) {
+            return true;
+        }
+    }
+    false
 }
 
 /// A name that an earlier line has declared already (F2).
@@ -51,12 +59,7 @@ pub(crate) fn twice_slip<'a>(
     let [first, name, ..] = words else {
         return Ok(None);
     };
-    let earlier = match str_of(first.bytes) {
-        "node" => all.node(name.bytes).map(|node| node.number),
-        "edge" => all.edge(name.bytes).map(|edge| edge.number),
-        _ => all.a_loop(name.bytes).map(|it| it.number),
-    };
-    let Some(line) = earlier else {
+    let Some(line) = line_declaring(all, str_of(first.bytes), name.bytes) else {
         return Ok(None);
     };
     let thing = Shown(first.bytes);
@@ -66,6 +69,15 @@ pub(crate) fn twice_slip<'a>(
             "expected a new name: line {line} declares a {thing} of this name already"
         )?,
     )))
+}
+
+// The first line that declares a node, an edge or a loop of this name.
+fn line_declaring(all: &Declarations<'_>, thing: &str, name: &[u8]) -> Option<u32> {
+    match thing {
+        "node" => Some(all.node(name)?.number),
+        "edge" => Some(all.edge(name)?.number),
+        _ => Some(all.a_loop(name)?.number),
+    }
 }
 
 /// A name that no line declares (F3).
@@ -82,12 +94,21 @@ pub(crate) fn undeclared_slip<'a>(alloc: Global, all: &Declarations<'a>, line: u
         return Ok(None);
     };
     let mut said = format!(in alloc; "no line declares a loop of this name")?;
-    let names: Vec<&[u8]> = all.loops.iter().map(|it| it.name.bytes).collect(alloc)?;
+    let names = loop_names(alloc, all)?;
     add_near_name(alloc, word.bytes, names.as_slice(), &mut said)?;
     if all.node(word.bytes).is_some() {
         said.push_str(" (there is a node of this name, and no loop)")?;
     }
     Ok(Some(Slip::at(word, said)))
+}
+
+// The names of all loops.
+fn loop_names<'a>(alloc: Global, all: &Declarations<'a>) -> Result<Vec<&'a [u8]>, AllocError> {
+    let mut names = Vec::new(alloc);
+    for it in all.loops.iter() {
+        names.push(it.name.bytes)?;
+    }
+    Ok(names)
 }
 
 // The end of an edge that is no node.
@@ -98,7 +119,7 @@ fn undeclared_end<'a>(alloc: Global, all: &Declarations<'a>, edge: EdgeLine<'a>)
         edge.dst
     };
     let mut said = format!(in alloc; "no line declares a node of this name")?;
-    let names: Vec<&[u8]> = all.nodes.iter().map(|node| node.name.bytes).collect(alloc)?;
+    let names = names_of(alloc, all, Sort::Node)?;
     add_near_name(alloc, word.bytes, names.as_slice(), &mut said)?;
     if all.a_loop(word.bytes).is_some() {
         said.push_str(" (there is a loop of this name, and no node)")?;
@@ -108,15 +129,30 @@ fn undeclared_end<'a>(alloc: Global, all: &Declarations<'a>, edge: EdgeLine<'a>)
 
 /// The node that a line declares.
 pub(crate) fn node_on<'a>(all: &Declarations<'a>, line: u32) -> Option<NodeLine<'a>> {
-    all.nodes.iter().find(|node| node.number == line).copied()
+    for node in all.nodes.iter() {
+        if node.number == line {
+            return Some(*node);
+        }
+    }
+    None
 }
 
 fn edge_on<'a>(all: &Declarations<'a>, line: u32) -> Option<EdgeLine<'a>> {
-    all.edges.iter().find(|edge| edge.number == line).copied()
+    for edge in all.edges.iter() {
+        if edge.number == line {
+            return Some(*edge);
+        }
+    }
+    None
 }
 
 fn loop_on<'a>(all: &Declarations<'a>, line: u32) -> Option<LoopLine<'a>> {
-    all.loops.iter().find(|it| it.number == line).copied()
+    for it in all.loops.iter() {
+        if it.number == line {
+            return Some(*it);
+        }
+    }
+    None
 }
 
 /// A loop whose chain of loops is too long (F12).
@@ -157,24 +193,31 @@ pub(crate) fn edges_slip<'a>(alloc: Global, all: &Declarations<'a>, line: u32) -
     let kind = Shown(node.kind);
     let wants = wanted_edges(node.kind);
     let mut said = format!(in alloc; "expected {wants} (its kind is {kind}); ")?;
-    let ins: Vec<&[u8]> = all
-        .edges
-        .iter()
-        .filter(|edge| edge.dst.bytes == node.name.bytes)
-        .map(|edge| edge.name.bytes)
-        .collect(alloc)?;
+    let ins = edges_at(alloc, all, node.name.bytes, true)?;
     add_edges(&mut said, "into it", ins.as_slice())?;
     if node.kind == b"output".as_slice() {
-        let outs: Vec<&[u8]> = all
-            .edges
-            .iter()
-            .filter(|edge| edge.src.bytes == node.name.bytes)
-            .map(|edge| edge.name.bytes)
-            .collect(alloc)?;
+        let outs = edges_at(alloc, all, node.name.bytes, false)?;
         said.push_str(", ")?;
         add_edges(&mut said, "out of it", outs.as_slice())?;
     }
     Ok(Some(Slip::at(node.name, said)))
+}
+
+// The names of the edges that lead into a node, or out of it.
+fn edges_at<'a>(
+    alloc: Global,
+    all: &Declarations<'a>,
+    node: &[u8],
+    is_into: bool,
+) -> Result<Vec<&'a [u8]>, AllocError> {
+    let mut names = Vec::new(alloc);
+    for edge in all.edges.iter() {
+        let end = if is_into { edge.dst } else { edge.src };
+        if end.bytes == node {
+            names.push(edge.name.bytes)?;
+        }
+    }
+    Ok(names)
 }
 
 // How many edges a kind takes.
@@ -298,7 +341,12 @@ fn too_many<'a>(alloc: Global, all: &Declarations<'a>) -> Found<'a> {
 
 // Whether a node is split.
 fn is_split(all: &Declarations<'_>) -> bool {
-    all.nodes.iter().any(|node| node.split.is_some())
+    for node in all.nodes.iter() {
+        if node.split.is_some() {
+            return true;
+        }
+    }
+    false
 }
 
 // Whether a word is a number of this range.
@@ -311,18 +359,22 @@ fn is_between(word: &[u8], least: u64, most: u64) -> bool {
 
 /// What a flow lacks as a whole (F9).
 pub(crate) fn lacks(all: &Declarations<'_>) -> &'static str {
-    let inputs = all
-        .nodes
-        .iter()
-        .any(|node| is_one_of(node.kind, b"input".as_slice()));
-    let outputs = all
-        .nodes
-        .iter()
-        .any(|node| is_one_of(node.kind, b"output".as_slice()));
+    let inputs = has_kind(all, b"input".as_slice());
+    let outputs = has_kind(all, b"output".as_slice());
     match (inputs, outputs) {
         (false, false) =>
             "there is no input and no output: declare both, as `node orders input` and `node shop output epoch`",
         (false, true) => "there is no input: declare one, as `node orders input`",
         _ => "there is no output: declare one, as `node shop output epoch`",
     }
+}
+
+// Whether a node is of this kind.
+fn has_kind(all: &Declarations<'_>, kind: &[u8]) -> bool {
+    for node in all.nodes.iter() {
+        if node.kind == kind {
+            return true;
+        }
+    }
+    false
 }

@@ -7,9 +7,11 @@ const LONGEST: usize = 40;
 
 // The word in small letters.
 fn small(alloc: Global, word: &[u8]) -> Result<Vec<u8>, AllocError> {
-    word.iter()
-        .map(|byte| byte.to_ascii_lowercase())
-        .collect(alloc)
+    let mut letters = Vec::with_capacity(alloc, word.len())?;
+    for byte in word {
+        letters.push(byte.to_ascii_lowercase())?;
+    }
+    Ok(letters)
 }
 
 /// The nearest of words that stand in one text, with a space between.

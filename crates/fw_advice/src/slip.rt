@@ -115,12 +115,10 @@ fn number_note(word: &[u8]) -> &'static str {
 }
 
 fn record_note(word: &[u8]) -> &'static str {
-    if !word.contains(&b':') {
-        return ": there is no colon in it";
-    }
-    let colons = word.iter().filter(|byte| **byte == b':').count();
-    if colons > 1 {
-        return ": it has more than one colon";
+    match colons_in(word) {
+        0 => return ": there is no colon in it",
+        1 => {}
+        _ => return ": it has more than one colon",
     }
     if word.contains(&b'-') {
         return ": no number has a sign";
@@ -128,20 +126,34 @@ fn record_note(word: &[u8]) -> &'static str {
     ": digits on both sides, without a zero in front"
 }
 
+// How many colons a word has.
+fn colons_in(word: &[u8]) -> usize {
+    let mut count: usize = 0;
+    for byte in word {
+        if *byte == b':' {
+            count = count.saturating_add(1);
+        }
+    }
+    count
+}
+
 fn glued_note(word: &[u8]) -> &'static str {
-    if word.len() > 2
-        && word
-            .iter()
-            .any(|byte| matches!(*byte, b'<' | b'>' | b'=' | b'!'))
-    {
-        return "; words are separated by spaces, as in `value >= 10`";
+    if word.len() <= 2 {
+        return "";
+    }
+    for byte in word {
+        if matches!(*byte, b'<' | b'>' | b'=' | b'!') {
+            return "; words are separated by spaces, as in `value >= 10`";
+        }
     }
     ""
 }
 
 fn case_note(word: &[u8]) -> &'static str {
-    if word.iter().any(|byte| byte.is_ascii_uppercase()) {
-        return "; words are written in small letters";
+    for byte in word {
+        if byte.is_ascii_uppercase() {
+            return "; words are written in small letters";
+        }
     }
     if is_one_of(word, b"// -- ; %".as_slice()) {
         return "; a comment begins with #";
@@ -155,7 +167,7 @@ pub(crate) fn byte_slip<'a>(
     line: &'a [u8],
     number: u32,
 ) -> Result<Option<Slip<'a>>, AllocError> {
-    let Some(at) = line.iter().position(|byte| !matches!(*byte, 32..=126)) else {
+    let Some(at) = place_of_foreign(line) else {
         return Ok(None);
     };
     let rest = Word {
@@ -170,6 +182,16 @@ pub(crate) fn byte_slip<'a>(
         said,
         is_cured: true,
     }))
+}
+
+// The place of the first byte that no line may have.
+fn place_of_foreign(line: &[u8]) -> Option<usize> {
+    for (place, byte) in line.iter().enumerate() {
+        if !matches!(*byte, 32..=126) {
+            return Some(place);
+        }
+    }
+    None
 }
 
 // What a byte is that no line may have, by it and those that follow.

@@ -125,7 +125,12 @@ impl Slot {
 
 /// Whether a word is one of those that stand in a text with a space between.
 pub(crate) fn is_one_of(word: &[u8], words: &[u8]) -> bool {
-    words.split(|byte| *byte == b' ').any(|other| other == word)
+    for other in words.split(|byte| *byte == b' ') {
+        if other == word {
+            return true;
+        }
+    }
+    false
 }
 
 // Whether a word is a number, of any size.
@@ -149,5 +154,10 @@ fn is_record(word: &[u8]) -> bool {
 
 // Whether a word is numbers joined by dots.
 fn is_stamp(word: &[u8]) -> bool {
-    word.split(|byte| *byte == b'.').all(|part| is_number(part))
+    for part in word.split(|byte| *byte == b'.') {
+        if !is_number(part) {
+            return false;
+        }
+    }
+    true
 }

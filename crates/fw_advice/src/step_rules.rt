@@ -9,7 +9,7 @@ type Found<'a> = Result<Option<Slip<'a>>, AllocError>;
 
 /// What a name of a line is to be.
 #[derive(Clone, Copy)]
-enum Sort {
+pub(crate) enum Sort {
     Input,
     Output,
     Node,
@@ -50,7 +50,10 @@ impl Sort {
     fn is_declared(self, all: &Declarations<'_>, name: &[u8]) -> bool {
         match self {
             Sort::Edge => all.edge(name).is_some(),
-            _ => all.node(name).is_some_and(|node| self.has(node)),
+            _ => match all.node(name) {
+                Some(node) => self.has(node),
+                None => false,
+            },
         }
     }
 }
@@ -65,11 +68,7 @@ pub(crate) fn name_slip<'a>(
         return Ok(None);
     };
     let sort = Sort::of(verb.bytes);
-    let Some(word) = names
-        .iter()
-        .find(|word| !sort.is_declared(all, word.bytes))
-        .copied()
-    else {
+    let Some(word) = first_undeclared(all, sort, names) else {
         return Ok(None);
     };
     let wanted = sort.name();
@@ -81,21 +80,54 @@ pub(crate) fn name_slip<'a>(
     Ok(Some(Slip::at(word, said)))
 }
 
-// The names of this sort.
-fn names_of<'a>(
+// The first of these names that is not that of a thing of this sort.
+fn first_undeclared<'a>(
+    all: &Declarations<'_>,
+    sort: Sort,
+    names: &[Word<'a>],
+) -> Option<Word<'a>> {
+    for name in names {
+        if !sort.is_declared(all, name.bytes) {
+            return Some(*name);
+        }
+    }
+    None
+}
+
+/// The names of this sort.
+pub(crate) fn names_of<'a>(
     alloc: Global,
     all: &Declarations<'a>,
     sort: Sort,
 ) -> Result<Vec<&'a [u8]>, AllocError> {
     match sort {
-        Sort::Edge => all.edges.iter().map(|edge| edge.name.bytes).collect(alloc),
-        _ => all
-            .nodes
-            .iter()
-            .filter(|node| sort.has(**node))
-            .map(|node| node.name.bytes)
-            .collect(alloc),
+        Sort::Edge => edge_names(alloc, all),
+        _ => node_names(alloc, all, sort),
     }
+}
+
+// The names of all edges.
+fn edge_names<'a>(alloc: Global, all: &Declarations<'a>) -> Result<Vec<&'a [u8]>, AllocError> {
+    let mut names = Vec::new(alloc);
+    for edge in all.edges.iter() {
+        names.push(edge.name.bytes)?;
+    }
+    Ok(names)
+}
+
+// The names of the nodes of this sort.
+fn node_names<'a>(
+    alloc: Global,
+    all: &Declarations<'a>,
+    sort: Sort,
+) -> Result<Vec<&'a [u8]>, AllocError> {
+    let mut names = Vec::new(alloc);
+    for node in all.nodes.iter() {
+        if sort.has(*node) {
+            names.push(node.name.bytes)?;
+        }
+    }
+    Ok(names)
 }
 
 // Adds what a name is, where it is another thing.

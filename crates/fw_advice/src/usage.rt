@@ -93,7 +93,12 @@ struct Command {
 
 // The command of a word.
 fn command_of(word: &str) -> Option<Command> {
-    COMMANDS.iter().find(|it| it.word == word).copied()
+    for it in COMMANDS.iter() {
+        if it.word == word {
+            return Some(*it);
+        }
+    }
+    None
 }
 
 /// Why the words are no command, and which there are.

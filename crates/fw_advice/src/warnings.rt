@@ -4,7 +4,7 @@ use crate::circle::{Walks, is_in};
 use crate::declared::{Declarations, NodeLine};
 use crate::flow_rules::add_shown;
 use crate::shown::Shown;
-use crate::word::{Row, rows};
+use crate::word::{Row, is_word, rows};
 use std::alloc::{AllocError, Global};
 
 /// What of a flow leads nowhere or is never entered.
@@ -56,8 +56,12 @@ fn feed(
 
 // Whether an output is among these places.
 fn reaches_output(all: &Declarations<'_>, reached: &[bool]) -> bool {
-    all.nodes.iter().zip(reached).any(|(node, is_reached)| *is_reached
-        && node.kind == b"output".as_slice())
+    for (node, is_reached) in all.nodes.iter().zip(reached) {
+        if *is_reached && node.kind == b"output".as_slice() {
+            return true;
+        }
+    }
+    false
 }
 
 // Adds the places of the others.
@@ -100,9 +104,12 @@ fn add_unentered(
 
 // Whether a node that enters a loop is among the places that inputs reach.
 fn is_entered(all: &Declarations<'_>, fed: &[bool], name: &[u8]) -> bool {
-    all.nodes.iter().zip(fed).any(|(node, is_fed)| {
-        *is_fed && node.kind == b"enter".as_slice() && node.of.is_some_and(|of| of.bytes == name)
-    })
+    for (node, is_fed) in all.nodes.iter().zip(fed) {
+        if *is_fed && node.kind == b"enter".as_slice() && is_word(node.of, name) {
+            return true;
+        }
+    }
+    false
 }
 
 /// The texts of a run, with their names.
@@ -245,7 +252,12 @@ fn lines_with(rows: &[Row<'_>], verb: &[u8], name: &[u8]) -> u64 {
 
 // Whether a line has this verb.
 fn has_verb(rows: &[Row<'_>], verb: &[u8]) -> bool {
-    rows.iter().any(|row| is_of(row, verb))
+    for row in rows {
+        if is_of(row, verb) {
+            return true;
+        }
+    }
+    false
 }
 
 fn is_of(row: &Row<'_>, verb: &[u8]) -> bool {

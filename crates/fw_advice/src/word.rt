@@ -14,6 +14,14 @@ pub(crate) struct Word<'a> {
     pub(crate) from: usize,
 }
 
+/// Whether a word is there, and is this one.
+pub(crate) fn is_word(word: Option<Word<'_>>, wanted: &[u8]) -> bool {
+    match word {
+        Some(word) => word.bytes == wanted,
+        None => false,
+    }
+}
+
 /// A word as a text; the empty one, where it is none.
 pub(crate) fn str_of(word: &[u8]) -> &str {
     str::from_utf8(word).unwrap_or("")

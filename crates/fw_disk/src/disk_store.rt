@@ -139,26 +139,38 @@ impl<R: Files, S: Start> DiskStore<'_, R, S> {
     pub fn told(&self) -> Result<String, AllocError> {
         let mut told = String::new(self.alloc);
         for fault in &self.noted {
-            let head = format!(in self.alloc; "  {} {}: ", fault.call, fault.id)?;
-            told.push_str(&head)?;
-            told.push_str(&self.cause_told(&fault.cause)?)?;
-            told.push('\n')?;
+            self.add_fault(fault, &mut told)?;
         }
         let more = self.faults.saturating_sub(self.noted.len() as u64);
         if more > 0 {
-            told.push_str(&format!(in self.alloc; "  and {more} more")?)?;
-            told.push('\n')?;
+            write!(told, "  and {more} more\n")?;
         }
         Ok(told)
     }
 
     /// The path of a cause's place, and what is wrong there.
     pub fn cause_told(&self, cause: &DiskCause) -> Result<String, AllocError> {
-        let mut told = String::from_str(self.alloc, self.folder.name())?;
-        told.push_str(&format!(in self.alloc; "{}", cause.place)?)?;
-        told.push_str(": ")?;
-        told.push_str(&format!(in self.alloc; "{}", cause.trouble)?)?;
+        let mut told = String::new(self.alloc);
+        self.add_cause(cause, &mut told)?;
         Ok(told)
+    }
+
+    // Adds the line of a fault.
+    fn add_fault(&self, fault: &Fault, told: &mut String) -> Result<(), AllocError> {
+        write!(told, "  {} {}: ", fault.call, fault.id)?;
+        self.add_cause(&fault.cause, told)?;
+        told.push('\n')
+    }
+
+    // Adds the path of a cause's place, and what is wrong there.
+    fn add_cause(&self, cause: &DiskCause, told: &mut String) -> Result<(), AllocError> {
+        write!(
+            told,
+            "{}{}: {}",
+            self.folder.name(),
+            cause.place,
+            cause.trouble
+        )
     }
 
     /// The names of the files that no run may find in its folder, ascending by number: those of digits alone. Nothing is locked.

@@ -1,5 +1,5 @@
 //! The folder of a store, by calls of the system.
-ghost use Rattle.std.specs.Prelude.{◌≡◌, ◌⊎◌, ℕ, List, [], ◌∷◌, ◌++◌, map, true, false, is_ok, IfOk, IfSome, OnOk, OnErr, string_bytes};
+ghost use Rattle.std.specs.Prelude.{◌≡◌, ◌⊎◌, ℕ, List, [], ◌∷◌, ◌++◌, map, true, false, Ok, is_ok, IfOk, IfSome, OnOk, OnErr, string_bytes};
 ghost use Rattle.std.specs.Io.KnownBytes.{Appends};
 ghost use Rattle.fw_disk.specs.KnownFiles.{HasGrown, AreRead};
 ghost use Rattle.fw_disk.specs.FolderCalls.{calls_of, made, flushed, linked, renamed, removed, folder_flushed, is_run, IsRefused, IsNotRenamed, EndsInRemoval, IsLonger, AreOfRun, AreBesideRun};
@@ -75,8 +75,8 @@ impl<'a, R: Files> Folder<'a, R> {
             .write(true)
             .create_new(true)
             .open(self.files, path.as_str());
-        let mut file = made.map_err(|error| DiskRefusal::of(place, error))?;
-        write_whole(&mut file, bytes).map_err(|error| DiskRefusal::of(place, error))?;
+        let mut file = answered(place, made)?;
+        answered(place, write_whole(&mut file, bytes))?;
         Ok(file)
     }
 
@@ -88,8 +88,8 @@ impl<'a, R: Files> Folder<'a, R> {
         let opened = OpenOptions::new()
             .append(true)
             .open(self.files, path.as_str());
-        let mut longer = opened.map_err(|error| DiskRefusal::of(place, error))?;
-        write_whole(&mut longer, bytes).map_err(|error| DiskRefusal::of(place, error))?;
+        let mut longer = answered(place, opened)?;
+        answered(place, write_whole(&mut longer, bytes))?;
         Ok(longer)
     }
 
@@ -97,9 +97,7 @@ impl<'a, R: Files> Folder<'a, R> {
     fn flush_file(&mut self, place: DiskPlace, file: &R::File) -> Result<(), DiskRefusal>
         ensures { calls_of self.new.calls ≡ flushed place (is_ok result) ∷ calls_of self.old.calls }
     {
-        let done = file
-            .sync_all()
-            .map_err(|error| DiskRefusal::of(place, error));
+        let done = answered(place, file.sync_all());
         self.calls.flushed(place, done.is_ok());
         done
     }
@@ -147,9 +145,10 @@ impl<'a, R: Files> Folder<'a, R> {
     // The system's call that gives a file a second name.
     fn do_link(&self, from: DiskPlace, to: DiskPlace) -> Result<(), DiskRefusal> {
         let (beside, named) = (self.path(from)?, self.path(to)?);
-        fs::hard_link(self.files, beside.as_str(), named.as_str()).map_err(|error| DiskRefusal::of(
-            to, error,
-        ))
+        answered(
+            to,
+            fs::hard_link(self.files, beside.as_str(), named.as_str()),
+        )
     }
 
     // Gives a file a second name that is not there.
@@ -210,9 +209,7 @@ impl<'a, R: Files> Folder<'a, R> {
     // The system's call that renames a file.
     fn do_rename(&self, from: DiskPlace, to: DiskPlace) -> Result<(), DiskRefusal> {
         let (beside, named) = (self.path(from)?, self.path(to)?);
-        fs::rename(self.files, beside.as_str(), named.as_str()).map_err(|error| DiskRefusal::of(
-            to, error,
-        ))
+        answered(to, fs::rename(self.files, beside.as_str(), named.as_str()))
     }
 
     /// Renames a file, in place of what has the name.
@@ -259,9 +256,7 @@ impl<'a, R: Files> Folder<'a, R> {
     // Whether a file has no bytes.
     fn is_empty(&self, place: DiskPlace) -> Result<bool, DiskRefusal> {
         let path = self.path(place)?;
-        let there = fs::metadata(self.files, path.as_str()).map_err(|error| DiskRefusal::of(
-            place, error,
-        ))?;
+        let there = answered(place, fs::metadata(self.files, path.as_str()))?;
         Ok(there.is_file() && there.len() == 0)
     }
 
@@ -291,13 +286,8 @@ impl<'a, R: Files> Folder<'a, R> {
     // The system's calls that flush the names.
     fn do_flush(&self) -> Result<(), DiskRefusal> {
         let path = self.path(DiskPlace::Folder)?;
-        let folder = fs::open(self.files, path.as_str()).map_err(|error| DiskRefusal::of(
-            DiskPlace::Folder,
-            error,
-        ))?;
-        folder
-            .sync_all()
-            .map_err(|error| DiskRefusal::of(DiskPlace::Folder, error))
+        let folder = answered(DiskPlace::Folder, fs::open(self.files, path.as_str()))?;
+        answered(DiskPlace::Folder, folder.sync_all())
     }
 
     /// Flushes the names of the folder's files to the disk.
@@ -314,11 +304,8 @@ impl<'a, R: Files> Folder<'a, R> {
         ensures { IfOk result (λ read. AreRead R.Dir.Read.remaining read.items) }
     {
         let path = self.path(DiskPlace::Folder)?;
-        let mut dir = self
-            .files
-            .open_dir(path.as_str())
-            .map_err(|error| DiskRefusal::of(DiskPlace::Folder, error))?;
-        read_names(self.alloc, &mut dir).map_err(|error| DiskRefusal::of(DiskPlace::Folder, error))
+        let mut dir = answered(DiskPlace::Folder, self.files.open_dir(path.as_str()))?;
+        answered(DiskPlace::Folder, read_names(self.alloc, &mut dir))
     }
 
     /// The names of digits alone in the folder, ascending by number.
@@ -336,10 +323,7 @@ impl<R: Files<File = File>> Folder<'_, R> {
     /// The folder, opened and locked for as long as the handle is there.
     pub(crate) fn lock(&self) -> Result<File, DiskRefusal> {
         let path = self.path(DiskPlace::Folder)?;
-        let folder = fs::open(self.files, path.as_str()).map_err(|error| DiskRefusal::of(
-            DiskPlace::Folder,
-            error,
-        ))?;
+        let folder = answered(DiskPlace::Folder, fs::open(self.files, path.as_str()))?;
         match folder.try_lock() {
             Ok(()) => Ok(folder),
             Err(TryLockError::WouldBlock) => Err(DiskRefusal::at(
@@ -353,15 +337,19 @@ impl<R: Files<File = File>> Folder<'_, R> {
     /// Whether the folder that is there is the one of a handle.
     pub(crate) fn is_that_of(&self, handle: &File) -> Result<bool, DiskRefusal> {
         let path = self.path(DiskPlace::Folder)?;
-        let there = fs::metadata(self.files, path.as_str()).map_err(|error| DiskRefusal::of(
-            DiskPlace::Folder,
-            error,
-        ))?;
-        let locked = OpenFile::metadata(handle).map_err(|error| DiskRefusal::of(
-            DiskPlace::Folder,
-            error,
-        ))?;
+        let there = answered(DiskPlace::Folder, fs::metadata(self.files, path.as_str()))?;
+        let locked = answered(DiskPlace::Folder, OpenFile::metadata(handle))?;
         Ok(is_same_node(&there, &locked))
+    }
+}
+
+// What the system answered to a call at a place, with what it refused as the refusal of that place.
+fn answered<T: Drop>(place: DiskPlace, answer: io::Result<T>) -> Result<T, DiskRefusal>
+    ensures { IfOk result (λ value. answer ≡ Ok value) }
+{
+    match answer {
+        Ok(value) => Ok(value),
+        Err(error) => Err(DiskRefusal::of(place, error)),
     }
 }
 

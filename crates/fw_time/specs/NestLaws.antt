@@ -60,6 +60,13 @@ one-dimension [] h = cc
 one-dimension (x ∷ []) h = refl
 one-dimension (x ∷ y ∷ s) h = absurd (omega arith)
 
+-- two coordinates are the first and the second
+pub two-dimension : (s : List ℕ) → length s ≡ 2 → slice_index s 0 ∷ slice_index s 1 ∷ [] ≡ s
+two-dimension [] h = cc
+two-dimension (x ∷ []) h = absurd (omega arith)
+two-dimension (x ∷ y ∷ []) h = refl
+two-dimension (x ∷ y ∷ z ∷ s) h = absurd (omega arith)
+
 -- there is a coordinate where there is one more than some
 pub positive-from : (s : List ℕ) (n : ℕ) → length s ≡ n + 1 → 0 < length s
 positive-from s n h = omega arith

@@ -7,4 +7,4 @@ mod stamp;
 mod time;
 
 pub use stamp::{Bounds, Stamp};
-pub use time::{Epoch, Nest, Scalar, SeqNo, Time};
+pub use time::{Both, Epoch, Nest, Scalar, SeqNo, Time};

@@ -1,6 +1,6 @@
 //! Logical times of one type per depth of loops.
 ghost use Rattle.std.specs.Prelude.{◌≡◌, ℕ, ◌+◌, ◌<◌, ◌≤◌, List, [], ◌∷◌, length, slice_index, false, refl};
-ghost use Rattle.std.specs.Ordering.{is_eq};
+ghost use Rattle.std.specs.Ordering.{is_eq, nat_cmp};
 ghost use Rattle.fw_time.specs.Stamp.{leq, lub, same, in_domain, nest};
 
 use crate::{Bounds, Stamp};
@@ -185,6 +185,68 @@ impl Scalar for SeqNo {
     ghost one_coord = { λ x. refl };
 
     ghost one_dimension = { refl };
+}
+
+/// A time of a domain with sides: a coordinate for each side, of which those of the domain have one that is 0.
+#[derive(Clone, Copy, Debug, PartialEq, Eq, PartialOrd, Ord)]
+pub struct Both {
+    /// The coordinate of the first side.
+    pub first: u32,
+    /// That of the second.
+    pub second: u32,
+}
+
+impl Time for Both {
+    ghost use Rattle.std.proofs.Common.{rules};
+    ghost use Rattle.fw_time.specs.NestLaws.{single, single-apart, two-dimension, outer-same, counter-same, nest-apart};
+
+    ghost coords = { λ t. t.first ∷ t.second ∷ [] };
+
+    ghost dimension = { 2 };
+
+    ghost of_coords = { λ s. record { first = slice_index s 0; second = slice_index s 1 } };
+
+    fn leq(&self, other: &Self) -> bool {
+        self.first <= other.first && self.second <= other.second
+    }
+
+    fn lub(&self, other: &Self) -> Self {
+        Both {
+            first: self.first.max(other.first),
+            second: self.second.max(other.second),
+        }
+    }
+
+    fn coords(&self) -> Stamp {
+        Stamp::new(&[self.first, self.second])
+    }
+
+    fn in_domain(&self, bounds: &Bounds) -> bool
+        ensures { result ≡ in_domain bounds.now (self.now.first ∷ self.now.second ∷ []) }
+    {
+        self.coords().in_domain(bounds)
+    }
+
+    fn from_coords(stamp: &Stamp) -> Self {
+        Both {
+            first: stamp.at(0),
+            second: stamp.at(1),
+        }
+    }
+
+    ghost same_coords = { λ x y e.
+        let f = single x.first y.first (outer-same (x.first ∷ []) (y.first ∷ []) x.second y.second e) in
+        let s = counter-same (x.first ∷ []) (y.first ∷ []) x.second y.second e in
+        λ i. record { first = f i; second = s i } };
+
+    ghost told_apart = { λ x y.
+        nest-apart (nat_cmp x.first y.first) (x.first ∷ []) (y.first ∷ []) x.second y.second refl (single-apart x.first y.first) };
+
+    ghost all_coords = { two-dimension };
+
+    ghost same_dimension = { λ x. refl };
+
+    ghost positive_dimension = { λ x. Prim.search rules };
 }
 
 /// A time of a loop: a time outside of it and the loop's counter.

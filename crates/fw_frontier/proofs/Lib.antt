@@ -1,3 +1,4 @@
+pub mod SidesLaws
 pub mod Pairs
 pub mod InsideLaws
 pub mod AntichainLaws

@@ -6,6 +6,7 @@ pub mod Tops
 pub mod Few
 pub mod FrontText
 pub mod Below
+pub mod Sides
 pub mod BelowLaw
 pub mod Stairs
 pub mod StairsLaw

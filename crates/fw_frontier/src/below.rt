@@ -105,7 +105,7 @@ fn greatest_of(bounds: &Bounds) -> u32
 }
 
 // Whether a number is below the limit.
-fn is_within(until: Option<u32>, n: u32) -> bool
+pub(crate) fn is_within(until: Option<u32>, n: u32) -> bool
     ensures { result ≡ is_below until n }
 {
     match until {
@@ -115,7 +115,7 @@ fn is_within(until: Option<u32>, n: u32) -> bool
 }
 
 // The lower limit.
-fn lower(one: Option<u32>, other: Option<u32>) -> Option<u32>
+pub(crate) fn lower(one: Option<u32>, other: Option<u32>) -> Option<u32>
     ensures { (n : ℕ) → is_below result n ≡ (is_below one n && is_below other n) }
 {
     match (one, other) {
@@ -126,7 +126,7 @@ fn lower(one: Option<u32>, other: Option<u32>) -> Option<u32>
 }
 
 // The upper limit.
-fn upper(one: Option<u32>, other: Option<u32>) -> Option<u32>
+pub(crate) fn upper(one: Option<u32>, other: Option<u32>) -> Option<u32>
     ensures { (n : ℕ) → is_below result n ≡ (is_below one n || is_below other n) }
 {
     match (one, other) {
@@ -137,7 +137,7 @@ fn upper(one: Option<u32>, other: Option<u32>) -> Option<u32>
 }
 
 // Whether each number below the one limit is below the other.
-fn is_at_most(one: Option<u32>, other: Option<u32>) -> bool
+pub(crate) fn is_at_most(one: Option<u32>, other: Option<u32>) -> bool
     ensures { IsTrue result ↔ ((n : ℕ) → is_below one n ≡ true → is_below other n ≡ true) }
 {
     match (one, other) {

@@ -1,2 +1,4 @@
 pub mod Numbers
 pub mod Sequence
+pub mod Zip
+pub mod LawsOfZips

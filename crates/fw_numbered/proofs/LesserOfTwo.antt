@@ -7,7 +7,7 @@ use Rattle.fw_time.specs.Sending.{side_stamp, side_number}
 use Rattle.fw_bag.specs.declared.rec.Rec.{Rec}
 use Rattle.fw_bag.specs.Arrivals.{Arrival, arrival}
 use Rattle.fw_numbered.specs.Zip.{latest_at, partners_at, zipped, zipped_recs}
-use Rattle.fw_numbered.specs.LawsOfZips.{how_many_on, AreInTurn, zipped_with, zipped_for, numbers_below, ZipsSendTheLesser}
+use Rattle.fw_numbered.specs.LawsOfZips.{how_many_on, AreInTurn, zipped_for, numbers_below, ZipsSendTheLesser}
 use Rattle.fw_numbered.proofs.ZipLaws.{first_stamp, second_stamp, first-second, second-first}
 
 -- ---- what is there

@@ -11,7 +11,7 @@ use Rattle.std.proofs.lemmas.Bool.{and_from, and_parts}
 use Rattle.std.proofs.lemmas.Map.{lookup-none}
 use Rattle.std.proofs.lemmas.Map.Entries.{option_filter, none_past_head}
 use Rattle.std.proofs.lemmas.Map.Keys.{IsDistinct-tail, IsDistinct-from_sorted}
-use Rattle.fw_time.specs.Stamp.{Stamp, same}
+use Rattle.fw_time.specs.Stamp.{Stamp}
 use Rattle.fw_time.specs.NestLaws.{single, single-apart}
 use Rattle.fw_time.proofs.StampLaws.{same-is}
 use Rattle.fw_bag.specs.Arrivals.{Arrival}

@@ -1,7 +1,6 @@
-use Rattle.std.proofs.Common.{◌≡◌, ◌∙◌, sym, ap, true, not, ◌&&◌, [], ◌∷◌, length, get_or, take, arith}
+use Rattle.std.proofs.Common.{◌≡◌, ◌∙◌, ap, true, not, ◌&&◌, [], ◌∷◌, arith}
 use Rattle.fw_time.specs.Stamp.{leq, is_of_side}
 use Rattle.fw_lemmas.proofs.Each.{each-at}
-use Rattle.fw_frontier.specs.Front.{inside}
 use Rattle.fw_frontier.proofs.GenericLaws.{inside_more}
 use Rattle.fw_frontier.proofs.SidesLaws.{side-length}
 use Rattle.fw_frontier.proofs.two_below.TwoBelow.from_front.Goals as goal

@@ -1,6 +1,5 @@
-use Rattle.std.proofs.Common.{◌≡◌, true, sym, ◌∙◌}
+use Rattle.std.proofs.Common.{true}
 use Rattle.std.proofs.lemmas.Bool.{both_ways}
-use Rattle.fw_frontier.specs.Sides.{is_below_side}
 use Rattle.fw_frontier.proofs.SidesLaws.{sides-within, within-first, within-second}
 use Rattle.fw_frontier.proofs.two_below.TwoBelow.subset.Goals as goal
 

@@ -1,0 +1,4 @@
+pub mod WeightLaws
+pub mod PairLaws
+pub mod CrossLaws
+pub mod HeldLaws

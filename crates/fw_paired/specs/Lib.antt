@@ -1,0 +1,4 @@
+pub mod Bags
+pub mod Pairs
+pub mod Cross
+pub mod LawsOfPairs

@@ -22,6 +22,7 @@ pub mod NestedRecovery
 pub mod OffersOfTotals
 pub mod Plays
 pub mod Progress
+pub mod Paired
 pub mod Records
 pub mod Settling
 pub mod Told

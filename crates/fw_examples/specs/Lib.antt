@@ -18,6 +18,7 @@ pub mod Logs
 pub mod Loop
 pub mod Nested
 pub mod OffersOfTotals
+pub mod Paired
 pub mod Records
 pub mod RunningTotal
 pub mod Told

@@ -5,6 +5,7 @@ ghost use Rattle.fw_examples.specs.Changed.{ChangesAreJoined};
 ghost use Rattle.fw_examples.specs.Floors.{CoversArePoorer, EpochsAreMissing, FloorsAreThere, OffersAreAbove};
 ghost use Rattle.fw_examples.specs.InTurn.{EpochsSettleInTurn};
 ghost use Rattle.fw_examples.specs.OffersOfTotals.{CheckpointsAreOffered};
+ghost use Rattle.fw_examples.specs.Paired.{PairsAreMade};
 ghost use Rattle.fw_examples.specs.Records.{FrontsAreSpelled, RecordsAreSpelled};
 ghost use Rattle.fw_examples.specs.Trails.{TrailLeadsToLargest};
 
@@ -175,6 +176,12 @@ pub fn records_are_spelled()
 #[tactic(auto, using(crate::proofs::Changed::changes_are_joined))]
 pub fn changes_are_joined()
     ensures { ChangesAreJoined }
+{}
+
+/// Four recs that came on two in-edges at two epochs, and what the law of pairs says of them.
+#[tactic(auto, using(crate::proofs::Paired::pairs_are_made))]
+pub fn pairs_are_made()
+    ensures { PairsAreMade }
 {}
 
 /// A canonical front of a loop that a record can hold.

@@ -29,7 +29,6 @@ use std::alloc::Global;
 
 /// An engine with its store, which takes batches while it runs, and goes on where it is started again over the same store: each batch is put
 /// before the engine is fed with it, and behind the steps of a line a root is put.
-#[derive(Drop)]
 pub struct LastingSession<K: Store + Drop> {
     pub(crate) alloc: Global,
     pub(crate) engine: RestartableEngine,
@@ -42,6 +41,13 @@ pub struct LastingSession<K: Store + Drop> {
     // The store holds what the engine's catalogue names, and the ids of that lie before those of batches.
     ghost stored: { ForSome (K.view store).records (HasEntries (keep_of engine.engine)) },
     ghost few: { (keep_of engine.engine).next ≤ 2 ^ 63 },
+}
+
+// Written out, so that it is one call wherever a session is let go.
+impl<K: Store + Drop> Drop for LastingSession<K> {
+    fn drop(self) {
+        drop(self.into_store());
+    }
 }
 
 impl<K: Store + Drop> LastingSession<K> {
@@ -227,7 +233,18 @@ impl<K: Store + Drop> LastingSession<K> {
     pub fn into_store(self) -> K
         ensures { result ≡ self.store }
     {
-        self.store
+        let LastingSession {
+            alloc: _,
+            engine,
+            arrivals,
+            store,
+            digests: _,
+            turn: _,
+            steps: _,
+        } = self;
+        drop(engine);
+        drop(arrivals);
+        store
     }
 
     /// The engine, to be looked at.

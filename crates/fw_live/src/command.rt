@@ -167,8 +167,8 @@ pub fn end<O: Sink>(alloc: Global, counts: LineCounts, out: &mut O) -> Status
     }
 }
 
-/// The status of a session that answered all lines, by what was counted.
-pub fn status_of(counts: LineCounts) -> Status
+// The status of a session that answered all lines, by what was counted.
+fn status_of(counts: LineCounts) -> Status
     ensures { result ≡ status_by counts }
 {
     match counts.damaged {

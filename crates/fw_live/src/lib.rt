@@ -19,7 +19,7 @@ mod turn;
 mod words;
 
 pub use asked::LINE_LIMIT;
-pub use command::{end, falkirk_live, status_of, stopped, unread};
+pub use command::{end, falkirk_live, stopped, unread};
 pub use counts::LineCounts;
 pub use fault::ServeFault;
 pub use line_source::{LineSource, NextLine};
@@ -28,5 +28,5 @@ pub use mem_lines::MemLines;
 pub use rule::LineRule;
 pub use serving::serve;
 pub use stream_lines::StreamLines;
-pub use text::last_line;
+pub use text::write_outcome;
 pub use words::{LiveWords, is_live, name_of_text, parse};

@@ -26,7 +26,6 @@ use fw_session::Session;
 use std::alloc::{AllocError, Global};
 
 /// A session that answers lines: batches, ends of sources, and steps.
-#[derive(Drop)]
 pub struct Live<S: Living + Drop> {
     alloc: Global,
     pub(crate) session: S,
@@ -35,6 +34,13 @@ pub struct Live<S: Living + Drop> {
     pub(crate) counts: LineCounts,
     // The sources are those of its flow.
     ghost named: { sources ≡ sources_of (flow_of (S.engine_of session)) },
+}
+
+// Written out, so that it is one call wherever a session is let go.
+impl<S: Living + Drop> Drop for Live<S> {
+    fn drop(self) {
+        drop(self.into_session());
+    }
 }
 
 impl<K: Store + Drop> Live<Session<K>> {
@@ -176,7 +182,15 @@ impl<S: Living + Drop> Live<S> {
     pub fn into_session(self) -> S
         ensures { result ≡ self.session }
     {
-        self.session
+        let Live {
+            alloc: _,
+            session,
+            sources,
+            rests: _,
+            counts: _,
+        } = self;
+        drop(sources);
+        session
     }
 
     /// What was counted of its lines.

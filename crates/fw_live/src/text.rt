@@ -13,8 +13,8 @@ use fw_engine::Stepped;
 use fw_flow::{Flow, NodeId};
 use std::alloc::{AllocError, Global};
 
-/// Writes the lines of what came of a step.
-pub(crate) fn write_outcome(
+/// Writes the lines of what came of a step. The error is want of memory.
+pub fn write_outcome(
     alloc: Global,
     flow: &Flow,
     stepped: &Stepped,
@@ -94,7 +94,7 @@ pub(crate) fn write_damaged(alloc: Global, id: u64, into: &mut Vec<u8>) -> Resul
 }
 
 /// The last line, of all that was counted.
-pub fn last_line(alloc: Global, counts: LineCounts) -> Result<String, AllocError>
+pub(crate) fn last_line(alloc: Global, counts: LineCounts) -> Result<String, AllocError>
     ensures { IfOk result (λ line. string_bytes line ≡ life.counts_line counts) }
 {
     let LineCounts {

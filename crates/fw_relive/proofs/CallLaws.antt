@@ -44,7 +44,7 @@ use Rattle.fw_live.proofs.CommandLaws.{writes-none}
 use Rattle.fw_run.specs.Call.{CountsWrites}
 use Rattle.fw_live.specs.Words.{LiveCommand}
 use Rattle.fw_relive.specs.Opening.{Restart, lines_found, opened_text, restart_in}
-use Rattle.fw_relive.specs.Call.{AnswersFrom, EndsLasting, EndsUnopened, GoesOnBehind, HasTextSo, IsCutBehind, IsFlowText, AreOfRoot, KeepsAtEnd, LastingAnswers, MayBeginOver, OpensAt, StartsFrom, WritesAt, live_digests, unstarted_status}
+use Rattle.fw_relive.specs.Call.{AnswersFrom, EndsLasting, EndsUnopened, GivesBack, GoesOnBehind, HasTextSo, IsCutBehind, IsFlowText, AreOfRoot, KeepsAtEnd, LastingAnswers, MayBeginOver, OpensAt, StartsFrom, WritesAt, live_digests, unstarted_status}
 
 -- ---- statuses
 
@@ -346,6 +346,12 @@ lasting-told texts command told tells given gives ended status result before aft
 lasting-told texts command told tells given gives ended status result before after (inr (w, e)) so =
     subst (λ s. LastingAnswers texts command told tells given gives ended s before after) (sym e)
     (no-memory texts command told tells given gives ended status before after w so)
+
+pub gives_back-told : {K : Type 0} (store : Option K) (status result : Status) (given gives : Option (List LineIn)) → IsTellingOf status result
+    → GivesBack store status given gives → GivesBack store result given gives
+gives_back-told (Some store) status result given gives told back = tt
+gives_back-told None status result given gives (inl e) back = (e ∙ back.0, back.1)
+gives_back-told None status result given gives (inr (w, e)) back = (e, back.1)
 
 -- ---- what is known of a start, and of what stopped a call
 

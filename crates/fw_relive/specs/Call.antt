@@ -58,6 +58,11 @@ MayBeginOver told command records = (live : LiveCommand) (text : List ℕ) (flow
 abbrev pub records_in : {K : Type 0} → (K → StoreView) → Option K → Option Records
 records_in view store = option_and_then (λ left. (view left).records) store
 
+-- a call gives its store back; or memory was refused, and no line came in
+abbrev pub GivesBack : {K : Type 0} → Option K → Status → Option (List LineIn) → Option (List LineIn) → Type 0
+GivesBack (Some store) status given gives = Unit {0}
+GivesBack None status given gives = (status ≡ NoMemory) × (gives ≡ given)
+
 -- ---- a start, where the store tells its records
 
 -- the status that tells why a session did not start; a start writes nothing

@@ -13,7 +13,7 @@ ghost use Rattle.fw_run.specs.Call.{CountsWrites, TellsNotes};
 ghost use Rattle.fw_run.specs.Status.{TellsOfRoot};
 ghost use Rattle.fw_session.specs.Story.{Story, IsStory};
 ghost use Rattle.fw_relive.specs.Call as spec;
-ghost use Rattle.fw_relive.specs.Call.{AnswersBehind, EndsLasting, KeepsAtEnd, LastingAnswers, MayBeginOver, OpensAt, records_in};
+ghost use Rattle.fw_relive.specs.Call.{AnswersBehind, EndsLasting, GivesBack, KeepsAtEnd, LastingAnswers, MayBeginOver, OpensAt, records_in};
 ghost use Rattle.fw_relive.specs.Opening.{restart_in};
 ghost use Rattle.sha2.specs.Sha256.{sha256};
 
@@ -61,6 +61,8 @@ pub fn falkirk_lasting<F: Folder, K: Store + Drop, L: LineSource, O: Sink, N: Si
         (record { folder = F.fault_count folder.old; lines = L.fault_count input.old })
         (record { folder = F.fault_count folder.new; lines = L.fault_count input.new }) (O.view out.old) (O.view out.new) }
     ensures writes { CountsWrites result.status (O.view out.old) (O.view out.new) }
+    // It gives its store back; or memory was refused before a line came in.
+    ensures store { GivesBack result.store result.status (L.given input.old) (L.given input.new) }
     // What was asked of the folder.
     ensures folder { KeepsFlow F.texts F.fetch_count (live_of (words_in words.now)) folder.old folder.new }
     // What the notes took.
@@ -90,6 +92,7 @@ fn run<F: Folder, K: Store + Drop, L: LineSource, O: Sink>(
         (record { folder = F.fault_count folder.old; lines = L.fault_count input.old })
         (record { folder = F.fault_count folder.new; lines = L.fault_count input.new }) (O.view out.old) (O.view out.new) }
     ensures writes { CountsWrites result.status (O.view out.old) (O.view out.new) }
+    ensures store { GivesBack result.store result.status (L.given input.old) (L.given input.new) }
     ensures folder { KeepsFlow F.texts F.fetch_count (live_of (words_in words.now)) folder.old folder.new }
 {
     let Some(words) = parse(&*words) else {
@@ -138,6 +141,7 @@ fn start<K: Store + Drop, L: LineSource, O: Sink>(
     ensures begun { EndsUnbegun result.status → ⊥ }
     ensures reads { CountsSession result.status (L.given input.old) (L.given input.new) (L.fault_count input.old) (L.fault_count input.new) }
     ensures writes { CountsWrites result.status (O.view out.old) (O.view out.new) }
+    ensures store { GivesBack result.store result.status (L.given input.old) (L.given input.new) }
 {
     match LastingSession::start(alloc, flow, digests, store) {
         Ok((session, resumed)) => go_on(alloc, session, &resumed, rests, input, out),
@@ -183,6 +187,7 @@ fn go_on<K: Store + Drop, L: LineSource, O: Sink>(
     ensures begun { EndsUnbegun result.status → ⊥ }
     ensures reads { CountsSession result.status (L.given input.old) (L.given input.new) (L.fault_count input.old) (L.fault_count input.new) }
     ensures writes { CountsWrites result.status (O.view out.old) (O.view out.new) }
+    ensures store { GivesBack result.store result.status (L.given input.old) (L.given input.new) }
 {
     let mut session = session;
     match open(alloc, &mut session, resumed, out) {
@@ -217,6 +222,7 @@ fn answer_on<K: Store + Drop, L: LineSource, O: Sink>(
     ensures begun { EndsUnbegun result.status → ⊥ }
     ensures reads { CountsSession result.status (L.given input.old) (L.given input.new) (L.fault_count input.old) (L.fault_count input.new) }
     ensures writes { CountsWrites result.status (O.view out.old) (O.view out.new) }
+    ensures store { GivesBack result.store result.status (L.given input.old) (L.given input.new) }
 {
     match Live::over(alloc, session, rests) {
         Ok(mut live) => Lasted {

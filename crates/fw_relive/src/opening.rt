@@ -4,8 +4,6 @@ ghost use Rattle.std.specs.List.{flat_map};
 ghost use Rattle.fw_flow.specs.Dataflow.{node_ids};
 ghost use Rattle.fw_command.specs.Writing.{IsWritten};
 ghost use Rattle.fw_engine.specs.Engine.{flow_of};
-ghost use Rattle.fw_running.specs.EffectText.{outcome_text};
-ghost use Rattle.fw_running.specs.Steps.{outcome_of};
 ghost use Rattle.fw_session.specs.Story.{Story};
 ghost use Rattle.fw_live.specs.Call.{stopped_status};
 ghost use Rattle.fw_live.specs.Serving.{IsCutBy};
@@ -17,10 +15,9 @@ ghost use Rattle.fw_relive.specs.Opening.{CutsOpening, lines_found, restart_in};
 use fw_flow::laws::flow_is_well_formed;
 use fw_flow::{Flow, NodeId};
 use fw_lasting::Resumed;
-use fw_live::ServeFault;
+use fw_live::{ServeFault, write_outcome};
 use fw_living::{LifeFault, Living};
 use fw_outside::{OutFault, Sink};
-use fw_running::Stepped;
 use std::alloc::{AllocError, Global};
 
 /// Keeps where the start led, with the lines that were kept last, and then writes what it goes on from.
@@ -134,22 +131,8 @@ fn put_resumed(
     let line = format!(in alloc; "resumed at {steps}\n")?;
     put(into, line.as_bytes())?;
     put(into, resumed.lines.as_slice())?;
-    put_stepped(alloc, flow, &resumed.stepped, into)?;
+    write_outcome(alloc, flow, &resumed.stepped, into)?;
     Ok(())
-}
-
-// The lines of what came of a step.
-fn put_stepped(
-    alloc: Global,
-    flow: &Flow,
-    stepped: &Stepped,
-    into: &mut Vec<u8>,
-) -> Result<(), AllocError>
-    ensures { OnOk result (into.new.items ≡ into.old.items ++ outcome_text flow.now (outcome_of stepped.now)) }
-{
-    let shown = stepped.display(flow);
-    let lines = format!(in alloc; "{shown}")?;
-    put(into, lines.as_bytes())
 }
 
 // Puts bytes behind the others.

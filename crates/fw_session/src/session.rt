@@ -22,7 +22,6 @@ use fw_running::{EngineFault, Stepped};
 use std::alloc::{AllocError, Global};
 
 /// An engine with its store, which takes batches while it runs.
-#[derive(Drop)]
 pub struct Session<K: Store + Drop> {
     pub(crate) engine: Engine,
     pub(crate) arrivals: Arrivals,
@@ -31,6 +30,20 @@ pub struct Session<K: Store + Drop> {
     ghost stored: { IsStored (keep_of engine) (K.view store).records },
     // Unless memory was refused, it is at some story, over a store that tells its records.
     pub ghost real: { ∥ IsAtSome engine (K.view store).records arrivals ∥₁ },
+}
+
+// Written out, so that it is one call wherever a session is let go.
+impl<K: Store + Drop> Drop for Session<K> {
+    fn drop(self) {
+        let Session {
+            engine,
+            arrivals,
+            store,
+        } = self;
+        drop(engine);
+        drop(arrivals);
+        drop(store);
+    }
 }
 
 impl<K: Store + Drop> Session<K> {

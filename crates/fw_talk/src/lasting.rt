@@ -72,21 +72,17 @@ impl Talk {
         requires { MayOpenFrom text.now self.old.speaker }
         ensures { IsOpenedFrom text.now rests self.old.speaker self.old.answer.items result self.new.speaker self.new.answer.items }
     {
-        match replace(&mut self.speaker, Speaker::NoMemory) {
-            Speaker::Kept(records) => {
-                self.answer.clear();
-                match started(alloc, text, records, rests) {
-                    Ok(talk) => {
-                        *self = talk;
-                        self.reply()
-                    }
-                    Err(_) => Reply::NoMemory,
-                }
+        let Speaker::Kept(kept) = &mut self.speaker else {
+            return Reply::NoSession;
+        };
+        let records = replace(kept, KeptRecords::new(alloc));
+        self.end();
+        match started(alloc, text, records, rests) {
+            Ok(talk) => {
+                *self = talk;
+                self.reply()
             }
-            speaker => {
-                self.speaker = speaker;
-                Reply::NoSession
-            }
+            Err(_) => Reply::NoMemory,
         }
     }
 

@@ -16,7 +16,6 @@ use fw_writing::{KeptRecords, WritingStore};
 use std::alloc::{AllocError, Global};
 
 /// What answers the lines of a talk.
-#[derive(Drop)]
 pub enum Speaker {
     /// A session whose records end with it.
     Session(Live<Session<FaultlessStore>>),
@@ -32,12 +31,32 @@ pub enum Speaker {
     NoMemory,
 }
 
+// Written out, so that it is one call wherever a speaker is let go.
+impl Drop for Speaker {
+    fn drop(self) {
+        match self {
+            Speaker::Session(live) => drop(live),
+            Speaker::Lasting(live) => drop(live),
+            Speaker::Kept(records) => drop(records),
+            Speaker::Unstarted(_) | Speaker::FlowRefused | Speaker::NoMemory => {}
+        }
+    }
+}
+
 /// A session of lines with the answer to its last line.
-#[derive(Drop)]
 pub struct Talk {
     pub(crate) speaker: Speaker,
     // To its last line; or the refusal of its flow.
     pub(crate) answer: Vec<u8>,
+}
+
+// Written out, so that it is one call wherever a talk is let go.
+impl Drop for Talk {
+    fn drop(self) {
+        let Talk { speaker, answer } = self;
+        drop(speaker);
+        drop(answer);
+    }
 }
 
 impl Talk {
@@ -104,7 +123,7 @@ impl Talk {
     }
 
     // There is no session any more, and no answer.
-    fn end(&mut self)
+    pub(crate) fn end(&mut self)
         ensures speaker { self.new.speaker ≡ Speaker.NoMemory }
         ensures answer { self.new.answer.items ≡ [] }
     {

@@ -1,5 +1,5 @@
 //! A store that notes what is put and removed.
-ghost use Rattle.std.specs.Prelude.{◌≡◌, [], ◌∷◌, ◌++◌, Some, None, option_map, ◌&&◌, OnOk, OnErr, IsErrOf};
+ghost use Rattle.std.specs.Prelude.{◌≡◌, [], ◌∷◌, ◌++◌, Some, None, option_map, ◌&&◌, not, OnOk, OnErr, IsErrOf};
 ghost use Rattle.std.specs.FinMap as map;
 ghost use Rattle.fw_outside.specs.Memory.{record_map};
 ghost use Rattle.fw_outside.specs.Outside.{one_more};
@@ -22,7 +22,6 @@ struct Given {
 
 /// A store in memory that notes what is put and removed. Behind a root, what leads to the next one is noted anew. It begins with records
 /// that were kept elsewhere; one that is not among them is a fault where it is asked for.
-#[derive(Drop)]
 pub struct WritingStore {
     alloc: Global,
     records: BTreeMap<u64, Vec<u8>>,
@@ -33,6 +32,23 @@ pub struct WritingStore {
     faults: u64,
     // What is noted was done: done again it changes nothing.
     ghost done: { AreDone (record_map records.entries) (told_as writes.items) },
+}
+
+// Written out, so that it is one call wherever a store is let go.
+impl Drop for WritingStore {
+    fn drop(self) {
+        let WritingStore {
+            alloc: _,
+            records,
+            writes,
+            rooted: _,
+            given,
+            faults: _,
+        } = self;
+        drop(records);
+        drop(writes);
+        drop(given);
+    }
 }
 
 impl WritingStore {
@@ -65,6 +81,7 @@ impl WritingStore {
     // Where this is due, what leads to the next root is noted anew behind the last one.
     fn begin_turn(&mut self, due: bool)
         ensures noted { told_as self.new.writes.items ≡ notes_before (due && self.old.rooted) (told_as self.old.writes.items) }
+        ensures rooted { self.new.rooted ≡ (not due && self.old.rooted) }
         ensures stays { (self.new.records.entries ≡ self.old.records.entries) × (self.new.given ≡ self.old.given) × (self.new.faults ≡ self.old.faults) }
     {
         if due && self.rooted {
@@ -78,6 +95,7 @@ impl WritingStore {
         ensures put { OnOk result (record_map self.new.records.entries ≡ map.insert (record_map self.old.records.entries) id bytes.items) }
         ensures noted { OnOk result (told_as self.new.writes.items
             ≡ notes_before self.old.rooted (told_as self.old.writes.items) ++ (id, Some bytes.items) ∷ []) }
+        ensures rooted { OnOk result (self.new.rooted ≡ is_root id) }
         ensures refused { OnErr result (self.new.records.entries ≡ self.old.records.entries) }
         ensures no_fault { IsErrOf result OutFault.Failed → ⊥ }
         ensures stays { (self.new.given ≡ self.old.given) × (self.new.faults ≡ self.old.faults) }
@@ -105,6 +123,7 @@ impl WritingStore {
         ensures removed { OnOk result (record_map self.new.records.entries ≡ map.remove (record_map self.old.records.entries) id) }
         ensures noted { OnOk result (told_as self.new.writes.items
             ≡ notes_before (is_root id && self.old.rooted) (told_as self.old.writes.items) ++ (id, None) ∷ []) }
+        ensures rooted { OnOk result (self.new.rooted ≡ (not (is_root id) && self.old.rooted)) }
         ensures refused { OnErr result (self.new.records.entries ≡ self.old.records.entries) }
         ensures no_fault { IsErrOf result OutFault.Failed → ⊥ }
         ensures stays { (self.new.given ≡ self.old.given) × (self.new.faults ≡ self.old.faults) }

@@ -3,7 +3,7 @@ use Rattle.fw_run.proofs.CountLaws.{never_fall-notes, writes_told}
 use Rattle.fw_live.specs.Words.{live_of}
 use Rattle.fw_live.proofs.CommandLaws.{reads-told}
 use Rattle.fw_relive.specs.Call.{records_in}
-use Rattle.fw_relive.proofs.CallLaws.{lasting-told}
+use Rattle.fw_relive.proofs.CallLaws.{gives_back-told, lasting-told}
 use Rattle.fw_relive.proofs.command.falkirk_lasting.Goals as goal
 
 pub returns-clause-answers : goal.returns-clause-answers
@@ -31,3 +31,8 @@ pub returns-clause-writes : goal.returns-clause-writes
 returns-clause-writes g c =
     writes_told c.run-ended.result.status c.tell.result (g.O.Sink.view c.args.out.now) (g.O.Sink.view c.run-ended.new.out) c.tell.ensures.status
     c.run-ended.ensures.writes
+
+pub returns-clause-store : goal.returns-clause-store
+returns-clause-store g c =
+    gives_back-told c.run-ended.result.store c.run-ended.result.status c.tell.result (g.L.LineSource.given c.args.input.now)
+    (g.L.LineSource.given c.run-ended.new.input) c.tell.ensures.status c.run-ended.ensures.store

@@ -11,6 +11,6 @@ returns c =
     let resumed = c.args.resumed.now in
     let old = c.args.into.now.items in
     resumed-parts old (codes "resumed at ") (decimal resumed.steps) (codes "\n") resumed.lines
-    (outcome_text c.args.flow.now (outcome_of resumed.stepped)) c.put.new.into.items c.put-2.new.into.items c.put_stepped.new.into.items
+    (outcome_text c.args.flow.now (outcome_of resumed.stepped)) c.put.new.into.items c.put-2.new.into.items c.write_outcome.new.into.items
     (c.in_ok-put.ensures ∙ ap (λ bytes. old ++ bytes) (c.as_bytes.ensures.value ∙ c.in_ok-line.ensures.ok))
-    (c.in_ok-put-2.ensures ∙ ap (λ bytes. c.put.new.into.items ++ bytes) c.as_slice.ensures) c.in_ok-put_stepped.ensures
+    (c.in_ok-put-2.ensures ∙ ap (λ bytes. c.put.new.into.items ++ bytes) c.as_slice.ensures) c.in_ok-write_outcome.ensures
